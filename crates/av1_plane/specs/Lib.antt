@@ -1,0 +1,17 @@
+pub mod Area
+pub mod Laws
+pub mod Layout
+pub mod Lending
+pub mod Numbers
+pub mod Offset
+pub mod Override
+pub mod Place
+pub mod Planes
+pub mod Reading
+pub mod Region
+pub mod Regions
+pub mod RowsMut
+pub mod Sampling
+pub mod Three
+pub mod Tiles
+pub mod Windows
