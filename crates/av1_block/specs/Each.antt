@@ -1,0 +1,19 @@
+-- A function that is called on each block of a rectangle.
+use Rattle.std.specs.Prelude.{ℕ, ◌≡◌, ◌<◌, List, length}
+use Rattle.std.specs.List.{slice_index_or}
+use Rattle.std.specs.Borrow.{MutBor}
+use Rattle.std.specs.Fn.{Shared}
+use Rattle.av1_block.specs.declared.block.Block.{Block}
+
+-- a call of f at a `&mut` to a block may leave another there
+pub record Leaves {F : Type 0} (g : Shared F (MutBor Block × Unit {0}) (Unit {0} × (MutBor Block × Unit {0}))) (f : F) (before after : Block) : Type 0 where
+  pub shown : MutBor Block
+  pub shows : shown.now ≡ before
+  pub left : MutBor Block
+  pub met : g.post f (shown, tt) (tt, (left, tt))
+  pub leaves : left.now ≡ after
+
+-- lists of one length, related entry by entry
+pub record AreRelated {E : Type 0} (R : E → E → Type 0) (xs ys : List E) : Type 0 where
+  pub same : length ys ≡ length xs
+  pub each : (k : ℕ) (d : E) → k < length xs → R (slice_index_or xs k d) (slice_index_or ys k d)

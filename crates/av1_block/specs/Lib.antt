@@ -1,0 +1,12 @@
+pub mod Sides
+pub mod Block
+pub mod Tables
+pub mod Rule
+pub mod Cut
+pub mod Laws
+pub mod Windows
+pub mod Writing
+pub mod Motion
+pub mod Changes
+pub mod MotionViews
+pub mod Each
