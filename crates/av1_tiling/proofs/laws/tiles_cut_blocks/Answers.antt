@@ -1,0 +1,6 @@
+use Rattle.av1_tiling.proofs.LawProofs.{cuts_blocks}
+use Rattle.av1_tiling.proofs.TilingFacts.{grid_is}
+use Rattle.av1_tiling.proofs.laws.tiles_cut_blocks.Goals as goal
+
+pub returns : goal.returns
+returns c s width height num den target_cols target_rows is_422 t e = cuts_blocks t (grid_is s width height num den target_cols target_rows is_422 t e)

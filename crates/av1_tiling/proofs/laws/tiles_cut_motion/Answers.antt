@@ -1,0 +1,6 @@
+use Rattle.av1_tiling.proofs.LawProofs.{cuts_motion}
+use Rattle.av1_tiling.proofs.TilingFacts.{grid_is}
+use Rattle.av1_tiling.proofs.laws.tiles_cut_motion.Goals as goal
+
+pub returns : goal.returns
+returns c s width height num den target_cols target_rows is_422 t e = cuts_motion t (grid_is s width height num den target_cols target_rows is_422 t e)

@@ -1,0 +1,241 @@
+-- What the filters and the coder take a frame to be: what stays while it is coded, what changes, and the conditions
+-- under which both fit together. Samples are numbers, and no storage is in it.
+use Rattle.std.specs.Prelude.{ℕ, zero, suc, ℤ, ◌+◌, ◌*◌, ◌/◌, ◌^◌, ◌<◌, ◌≤◌, ◌≡◌, ◌==◌, ◌||◌, ◌⊎◌, Bool, true, false, List, [], ◌∷◌, ◌++◌, All, Some, if◌then◌else◌}
+use Rattle.std.specs.Int.{div_ceil}
+use Rattle.std.specs.Arc.{arc_value}
+use Rattle.av1_plane.specs.Numbers.{InDepth}
+use Rattle.av1_plane.specs.Layout.{frame_layout, at, rounded}
+use Rattle.av1_plane.specs.declared.three.Three.{Three}
+use Rattle.av1_plane.specs.declared.plane.PlaneConfig.{PlaneConfig}
+use Rattle.av1_plane.specs.declared.sampling.ChromaSampling.{ChromaSampling}
+use Rattle.av1_plane.specs.declared.sampling.ChromaSampling.TheVariants.{Cs422}
+use Rattle.av1_plane.specs.declared.tile_rect.TileRect.{TileRect}
+use Rattle.av1_block.specs.declared.block.Block.{Block}
+use Rattle.av1_block.specs.Cut.{cut_of}
+use Rattle.av1_tiling.specs.declared.deblock_state.DeblockState.{DeblockState}
+use Rattle.av1_tiling.specs.declared.sequence.Sequence.{Sequence}
+use Rattle.av1_tiling.specs.declared.frame_invariants.FrameType.{FrameType}
+use Rattle.av1_tiling.specs.declared.frame_invariants.FrameInvariants.{FrameInvariants}
+use Rattle.av1_tiling.specs.declared.frame_state.FrameState.{FrameState}
+use Rattle.av1_tiling.specs.declared.tiling_info.TilingInfo.{TilingInfo}
+use Rattle.av1_tiling.specs.Grid.{grid, round_up}
+use Rattle.av1_tiling.specs.TileRects.{tile_superblock, tile_luma, tile_blocks, block_columns, block_rows}
+use Rattle.av1_tiling.specs.Views.{PlaneView, Part, TileState, View, view_plane, view_frame}
+
+-- what stays while a frame is coded
+pub record Parameters : Type 0 where
+  pub sequence : Sequence
+  pub width : ℕ
+  pub height : ℕ
+  pub sb_width : ℕ
+  pub sb_height : ℕ
+  pub w_in_b : ℕ
+  pub h_in_b : ℕ
+  pub frame_type : FrameType
+  pub base_q_idx : ℕ
+  pub ac_quantizer : ℕ
+  pub cdef_damping : ℕ
+  pub cdef_y_strengths : List ℕ
+  pub cdef_uv_strengths : List ℕ
+  pub fast_deblock : Bool
+  pub disable_frame_end_update_cdf : Bool
+  pub order_hint : ℕ
+  pub render_width : ℕ
+  pub render_height : ℕ
+  pub refresh_frame_flags : ℕ
+
+abbrev pub parameters : {X : Type 0} → FrameInvariants X → Parameters
+parameters fi = record {
+  sequence = fi.sequence;
+  width = fi.width;
+  height = fi.height;
+  sb_width = fi.sb_width;
+  sb_height = fi.sb_height;
+  w_in_b = fi.w_in_b;
+  h_in_b = fi.h_in_b;
+  frame_type = fi.frame_type;
+  base_q_idx = fi.base_q_idx;
+  ac_quantizer = fi.ac_quantizer;
+  cdef_damping = fi.cdef_damping;
+  cdef_y_strengths = fi.cdef_y_strengths;
+  cdef_uv_strengths = fi.cdef_uv_strengths;
+  fast_deblock = fi.fast_deblock;
+  disable_frame_end_update_cdf = fi.disable_frame_end_update_cdf;
+  order_hint = fi.order_hint;
+  render_width = fi.render_width;
+  render_height = fi.render_height;
+  refresh_frame_flags = fi.refresh_frame_flags;
+}
+
+-- what changes
+pub record State : Type 0 where
+  pub input : Three PlaneView
+  pub input_hres : PlaneView
+  pub input_qres : PlaneView
+  pub rec : Three PlaneView
+  pub context_update_tile_id : ℕ
+  pub max_tile_size_bytes : ℕ
+  pub deblock : DeblockState
+
+abbrev pub view_state : {X : Type 0} → (X → ℤ) → FrameState X → State
+view_state number fs = record {
+  input = view_frame number (arc_value fs.input);
+  input_hres = view_plane number (arc_value fs.input_hres);
+  input_qres = view_plane number (arc_value fs.input_qres);
+  rec = view_frame number (arc_value fs.rec);
+  context_update_tile_id = fs.context_update_tile_id;
+  max_tile_size_bytes = fs.max_tile_size_bytes;
+  deblock = fs.deblock;
+}
+
+-- the sample type of a bit depth: bytes at 8 bits, else words
+abbrev pub FitsDepth : (limit depth : ℕ) → Type 0
+FitsDepth limit depth = ((depth ≡ 8) × (limit ≡ 256)) ⊎ (((depth ≡ 10) ⊎ (depth ≡ 12)) × (limit ≡ 65536))
+
+abbrev pub is_422 : ChromaSampling → Bool
+is_422 Cs422 = true
+is_422 sampling = false
+
+-- the frame's tiling is the grid of its sides at some rate and for some wanted tiles
+abbrev pub IsTiling : Parameters → Type 0
+IsTiling p =
+    (num : ℕ) × (den : ℕ) × (cols : ℕ) × (rows : ℕ)
+    × (grid 6 p.width p.height num den cols rows (is_422 p.sequence.chroma_sampling) ≡ Some p.sequence.tiling)
+
+-- the parameters belong to one frame, whose samples are below limit
+pub record IsFrame (limit : ℕ) (p : Parameters) : Type 0 where
+  pub width : (1 ≤ p.width) × (p.width ≤ 65536)
+  pub height : (1 ≤ p.height) × (p.height ≤ 65536)
+  pub depth : FitsDepth limit p.sequence.bit_depth
+  pub superblock : p.sequence.use_128x128_superblock ≡ false
+  pub columns : p.w_in_b ≡ rounded p.width / 4
+  pub rows : p.h_in_b ≡ rounded p.height / 4
+  pub superblock_columns : p.sb_width ≡ div_ceil p.width 64
+  pub superblock_rows : p.sb_height ≡ div_ceil p.height 64
+  pub y_strengths : All (λ s. s ≤ 63) p.cdef_y_strengths
+  pub uv_strengths : All (λ s. s ≤ 63) p.cdef_uv_strengths
+  pub damping : (3 ≤ p.cdef_damping) × (p.cdef_damping ≤ 6)
+  pub tiling : IsTiling p
+
+-- the layouts of a frame's planes
+abbrev pub layouts : Three PlaneView → Three PlaneConfig
+layouts f = record { y = f.y.cfg; u = f.u.cfg; v = f.v.cfg }
+
+-- the samples inside a plane, its margin left out, are below a bound
+abbrev pub IsInRange : ℕ → PlaneView → Type 0
+IsInRange bound p =
+    (x y : ℕ) → x < p.cfg.width → y < p.cfg.height
+    → InDepth bound (at p.samples p.cfg.stride (p.cfg.xorigin + x) (p.cfg.yorigin + y))
+
+-- a state is made for a frame
+pub record IsStateFor (p : Parameters) (s : State) : Type 0 where
+  pub input : layouts s.input ≡ frame_layout p.width p.height p.sequence.chroma_sampling
+  pub rec : layouts s.rec ≡ frame_layout p.width p.height p.sequence.chroma_sampling
+  pub y_range : IsInRange (2 ^ p.sequence.bit_depth) s.input.y
+  pub u_range : IsInRange (2 ^ p.sequence.bit_depth) s.input.u
+  pub v_range : IsInRange (2 ^ p.sequence.bit_depth) s.input.v
+  pub shift : s.deblock.block_delta_shift ≤ 3
+
+-- no rectangle
+abbrev pub no_rect : TileRect
+no_rect = record { x = 0; y = 0; width = 0; height = 0 }
+
+-- where a rectangle of luma samples lies in the stored rows of a plane; an empty plane has none of it
+abbrev pub stored_rect : PlaneConfig → TileRect → TileRect
+stored_rect cfg luma =
+    if (cfg.width == 0) || (cfg.height == 0) then no_rect
+    else record {
+      x = cfg.xorigin + luma.x / 2 ^ cfg.xdec;
+      y = cfg.yorigin + luma.y / 2 ^ cfg.ydec;
+      width = luma.width / 2 ^ cfg.xdec;
+      height = luma.height / 2 ^ cfg.ydec;
+    }
+
+-- a rectangle of a list of rows, cut out
+abbrev pub cut_rect : {E : Type 0} → List E → ℕ → TileRect → Part E
+cut_rect table cols rect = record { rect = rect; table_cols = cols; entries = cut_of table cols rect.x rect.y rect.width rect.height }
+
+-- the part of a plane that a rectangle of luma samples covers
+abbrev pub plane_part : PlaneView → TileRect → Part ℤ
+plane_part p luma = cut_rect p.samples p.cfg.stride (stored_rect p.cfg luma)
+
+-- the parts of all planes
+abbrev pub frame_parts : Three PlaneView → TileRect → Three (Part ℤ)
+frame_parts f luma = record { y = plane_part f.y luma; u = plane_part f.u luma; v = plane_part f.v luma }
+
+-- that part is stored
+pub record PartFits (cfg : PlaneConfig) (luma : TileRect) : Type 0 where
+  pub columns : (stored_rect cfg luma).x + (stored_rect cfg luma).width ≤ cfg.stride
+  pub rows : (stored_rect cfg luma).y + (stored_rect cfg luma).height ≤ cfg.alloc_height
+  pub xdec : cfg.xdec ≤ 1
+  pub ydec : cfg.ydec ≤ 1
+  pub x : cfg.xorigin + luma.x < 2 ^ 32
+  pub y : cfg.yorigin + luma.y < 2 ^ 32
+
+-- the tile of these luma sides lies in a frame with these planes
+pub record LiesInFrame (f : Three PlaneView) (superblock : ℕ × ℕ) (width height : ℕ) : Type 0 where
+  pub frame_width : ℕ
+  pub frame_height : ℕ
+  pub sampling : ChromaSampling
+  pub layout : layouts f ≡ frame_layout frame_width frame_height sampling
+  pub width_limit : frame_width ≤ 65536
+  pub height_limit : frame_height ≤ 65536
+  pub wide : superblock.0 * 64 + width ≤ rounded frame_width
+  pub high : superblock.1 * 64 + height ≤ rounded frame_height
+
+-- the luma samples of a tile's view: its own, rounded up to whole superblocks
+abbrev pub samples_rect : ℕ × ℕ → (sb_size_log2 width height : ℕ) → TileRect
+samples_rect superblock sb_size_log2 width height =
+    let side = 2 ^ sb_size_log2 in
+    record { x = superblock.0 * side; y = superblock.1 * side; width = round_up width side; height = round_up height side }
+
+-- what a tile is coded from whose first superblock and luma sides are these
+abbrev pub tile_state : State → ℕ × ℕ → (sb_size_log2 width height : ℕ) → TileState
+tile_state s superblock sb_size_log2 width height =
+    let side = 2 ^ sb_size_log2 in
+    record {
+      superblock = superblock;
+      sb_size_log2 = sb_size_log2;
+      sb_width = div_ceil width side;
+      sb_height = div_ceil height side;
+      mi_width = width / 4;
+      mi_height = height / 4;
+      width = width;
+      height = height;
+      input = s.input;
+      input_hres = s.input_hres;
+      input_qres = s.input_qres;
+      deblock = s.deblock;
+      rec = frame_parts s.rec (samples_rect superblock sb_size_log2 width height);
+    }
+
+-- the starting view of tile n: what the state and the block table hold inside its rectangles
+abbrev pub view_of : TilingInfo → State → List Block → ℕ → View
+view_of t s blocks n = record {
+  ts = tile_state s (tile_superblock t n) t.sb_size_log2 (tile_luma t n).width (tile_luma t n).height;
+  blocks = cut_rect blocks (block_columns t) (tile_blocks t n);
+  frame_cols = block_columns t;
+  frame_rows = block_rows t;
+}
+
+-- those of the first n tiles, and of all
+unfoldable pub views_below : TilingInfo → State → List Block → ℕ → List View
+views_below t s blocks zero = []
+views_below t s blocks (suc n) = views_below t s blocks n ++ view_of t s blocks n ∷ []
+
+abbrev pub views : TilingInfo → State → List Block → List View
+views t s blocks = views_below t s blocks (t.cols * t.rows)
+
+-- the tiling of some frame whose planes these are and whose block table has these sides
+pub record IsTilingOf (t : TilingInfo) (f : Three PlaneView) (cols rows : ℕ) : Type 0 where
+  pub width : ℕ
+  pub height : ℕ
+  pub num : ℕ
+  pub den : ℕ
+  pub target_cols : ℕ
+  pub target_rows : ℕ
+  pub sampling : ChromaSampling
+  pub tiling : grid 6 width height num den target_cols target_rows (is_422 sampling) ≡ Some t
+  pub layout : layouts f ≡ frame_layout width height sampling
+  pub wide : cols ≡ block_columns t
+  pub high : rows ≡ block_rows t

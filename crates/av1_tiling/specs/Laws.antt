@@ -1,0 +1,46 @@
+-- What holds of every tiling.
+use Rattle.std.specs.Prelude.{ℕ, Bool, Some, ◌≡◌, ◌⊎◌, ◌*◌, ◌/◌, ◌%◌, ◌^◌, ◌≤◌}
+use Rattle.std.specs.Int.{div_ceil}
+use Rattle.av1_tiling.specs.Least.{tile_log2}
+use Rattle.av1_tiling.specs.Grid.{grid}
+use Rattle.av1_tiling.specs.Partition.{Partitions}
+use Rattle.av1_tiling.specs.TileRects.{superblock_side, superblock_columns, superblock_rows, block_columns, block_rows, tile_plane, tile_blocks, tile_motion, tile_units}
+use Rattle.av1_tiling.specs.declared.tiling_info.TilingInfo.{TilingInfo}
+
+-- what holds of each tiling that there is of any frame
+abbrev pub ForTilings : (TilingInfo → Type 0) → Type 0
+ForTilings P =
+    (s width height num den target_cols target_rows : ℕ) (is_422 : Bool) (t : TilingInfo)
+    → grid s width height num den target_cols target_rows is_422 ≡ Some t → P t
+
+-- the tiles of a plane cut it, rounded up to whole superblocks, into parts
+abbrev pub CutsPlanes : TilingInfo → Type 0
+CutsPlanes t =
+    (xdec ydec : ℕ) → xdec ≤ 1 → ydec ≤ 1
+    → Partitions (tile_plane t xdec ydec) (t.cols * t.rows)
+    (superblock_columns t * superblock_side t / 2 ^ xdec) (superblock_rows t * superblock_side t / 2 ^ ydec)
+
+-- the tiles cut the table of blocks, and each of motion records, into parts
+abbrev pub CutsBlocks : TilingInfo → Type 0
+CutsBlocks t = Partitions (tile_blocks t) (t.cols * t.rows) (block_columns t) (block_rows t)
+
+abbrev pub CutsMotion : TilingInfo → Type 0
+CutsMotion t = Partitions (tile_motion t) (t.cols * t.rows) (block_columns t) (block_rows t)
+
+-- along one side: count units of 2 ^ shift superblocks are no more than cover the frame,
+-- and of several tiles each begins with a unit
+pub record FitsUnits (shift count tiles tile_sb frame_sb : ℕ) : Type 0 where
+  pub aligned : (tiles ≡ 1) ⊎ (tile_sb % 2 ^ shift ≡ 0)
+  pub covered : count ≤ div_ceil frame_sb (2 ^ shift)
+
+-- the tiles cut a table of such restoration units into parts
+abbrev pub CutsUnits : TilingInfo → Type 0
+CutsUnits t =
+    (h_shift v_shift columns rows : ℕ)
+    → FitsUnits h_shift columns t.cols t.tile_width_sb (superblock_columns t)
+    → FitsUnits v_shift rows t.rows t.tile_height_sb (superblock_rows t)
+    → Partitions (tile_units t h_shift v_shift columns rows) (t.cols * t.rows) columns rows
+
+-- the logarithms are those of the numbers of columns and rows
+abbrev pub CountsByLog2 : TilingInfo → Type 0
+CountsByLog2 t = (tile_log2 1 t.cols ≡ t.tile_cols_log2) × (tile_log2 1 t.rows ≡ t.tile_rows_log2)

@@ -1,0 +1,10 @@
+pub mod Deblock
+pub mod Grid
+pub mod Least
+pub mod TileRects
+pub mod Views
+pub mod Frames
+pub mod Laws
+pub mod Partition
+pub mod Puts
+pub mod Tiles

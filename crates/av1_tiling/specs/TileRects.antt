@@ -1,0 +1,100 @@
+-- The rectangles of a tile: in the frame's planes, in its tables of blocks and motion, and in its tables
+-- of restoration units. Tiles are counted row by row (AV1 specification, section 5.11.1).
+use Rattle.std.specs.Prelude.{ℕ, ◌-◌, ◌*◌, ◌/◌, ◌%◌, ◌^◌, min}
+use Rattle.std.specs.Int.{div_ceil}
+use Rattle.av1_plane.specs.declared.tile_rect.TileRect.{TileRect}
+use Rattle.av1_tiling.specs.Grid.{round_up}
+use Rattle.av1_tiling.specs.declared.tiling_info.TilingInfo.{TilingInfo}
+
+abbrev pub tile_column : TilingInfo → ℕ → ℕ
+tile_column t n = n % t.cols
+
+abbrev pub tile_row : TilingInfo → ℕ → ℕ
+tile_row t n = n / t.cols
+
+-- the sides of a superblock and of the frame in superblocks
+abbrev pub superblock_side : TilingInfo → ℕ
+superblock_side t = 2 ^ t.sb_size_log2
+
+abbrev pub superblock_columns : TilingInfo → ℕ
+superblock_columns t = div_ceil t.frame_width (superblock_side t)
+
+abbrev pub superblock_rows : TilingInfo → ℕ
+superblock_rows t = div_ceil t.frame_height (superblock_side t)
+
+-- the tile's first superblock: its column and its row
+abbrev pub tile_superblock : TilingInfo → ℕ → ℕ × ℕ
+tile_superblock t n = (tile_column t n * t.tile_width_sb, tile_row t n * t.tile_height_sb)
+
+-- how many columns and rows of superblocks the tile has
+abbrev pub tile_superblocks : TilingInfo → ℕ → ℕ × ℕ
+tile_superblocks t n = (
+  min t.tile_width_sb (superblock_columns t - (tile_superblock t n).0),
+  min t.tile_height_sb (superblock_rows t - (tile_superblock t n).1),
+)
+
+-- the tile's luma samples, cut to the frame
+abbrev pub tile_luma : TilingInfo → ℕ → TileRect
+tile_luma t n =
+    let x = (tile_superblock t n).0 * superblock_side t in
+    let y = (tile_superblock t n).1 * superblock_side t in
+    record {
+      x = x;
+      y = y;
+      width = min (t.tile_width_sb * superblock_side t) (t.frame_width - x);
+      height = min (t.tile_height_sb * superblock_side t) (t.frame_height - y);
+    }
+
+-- the luma samples of the tile's view: these sides rounded up to whole superblocks
+abbrev pub tile_samples : TilingInfo → ℕ → TileRect
+tile_samples t n = let luma = tile_luma t n in record {
+  x = luma.x;
+  y = luma.y;
+  width = round_up luma.width (superblock_side t);
+  height = round_up luma.height (superblock_side t);
+}
+
+-- the samples of the tile's view in a plane of this decimation
+abbrev pub tile_plane : TilingInfo → ℕ → ℕ → ℕ → TileRect
+tile_plane t xdec ydec n = let samples = tile_samples t n in record {
+  x = samples.x / 2 ^ xdec;
+  y = samples.y / 2 ^ ydec;
+  width = samples.width / 2 ^ xdec;
+  height = samples.height / 2 ^ ydec;
+}
+
+-- the sides of the tables of blocks and of motion, whose units are 4 by 4 luma samples
+abbrev pub block_columns : TilingInfo → ℕ
+block_columns t = t.frame_width / 4
+
+abbrev pub block_rows : TilingInfo → ℕ
+block_rows t = t.frame_height / 4
+
+-- the tile's blocks: those of its superblocks, cut to the table
+abbrev pub tile_blocks : TilingInfo → ℕ → TileRect
+tile_blocks t n =
+    let side = superblock_side t / 4 in
+    let x = (tile_superblock t n).0 * side in
+    let y = (tile_superblock t n).1 * side in
+    record {
+      x = x;
+      y = y;
+      width = min (t.tile_width_sb * side) (block_columns t - x);
+      height = min (t.tile_height_sb * side) (block_rows t - y);
+    }
+
+-- its motion records stand at the same places
+abbrev pub tile_motion : TilingInfo → ℕ → TileRect
+tile_motion t n = tile_blocks t n
+
+-- the tile's units of a plane with columns by rows of them, a unit having 2 ^ h_shift by 2 ^ v_shift superblocks
+abbrev pub tile_units : TilingInfo → (h_shift v_shift columns rows : ℕ) → ℕ → TileRect
+tile_units t h_shift v_shift columns rows n =
+    let x = min ((tile_superblock t n).0 / 2 ^ h_shift) columns in
+    let y = min ((tile_superblock t n).1 / 2 ^ v_shift) rows in
+    record {
+      x = x;
+      y = y;
+      width = min (div_ceil (tile_superblocks t n).0 (2 ^ h_shift)) (columns - x);
+      height = min (div_ceil (tile_superblocks t n).1 (2 ^ v_shift)) (rows - y);
+    }

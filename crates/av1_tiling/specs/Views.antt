@@ -1,0 +1,100 @@
+-- What a tile coder sees of a frame, as plain data: samples are numbers, and no storage is in it.
+use Rattle.std.specs.Prelude.{ℕ, ℤ, List, map, length, take, drop, ◌++◌, if◌then◌else◌, ◌==◌, ◌≡◌}
+use Rattle.av1_plane.specs.declared.three.Three.{Three}
+use Rattle.av1_plane.specs.declared.plane.PlaneConfig.{PlaneConfig}
+use Rattle.av1_plane.specs.declared.plane.Plane.{Plane}
+use Rattle.av1_plane.specs.declared.frame.Frame.{Frame}
+use Rattle.av1_block.specs.declared.block.Block.{Block}
+use Rattle.av1_plane.specs.declared.tile_rect.TileRect.{TileRect}
+use Rattle.av1_block.specs.declared.cut.Cut.{Cut}
+use Rattle.av1_block.specs.Cut.{cut_entries, cut_rect, cut_table_cols}
+use Rattle.av1_tiling.specs.declared.deblock_state.DeblockState.{DeblockState}
+
+-- a plane: its layout and the numbers of its stored samples
+pub record PlaneView : Type 0 where
+  pub cfg : PlaneConfig
+  pub samples : List ℤ
+
+abbrev pub view_plane : {X : Type 0} → (X → ℤ) → Plane X → PlaneView
+view_plane number p = record { cfg = p.cfg; samples = map number p.samples.items }
+
+abbrev pub view_frame : {X : Type 0} → (X → ℤ) → Frame X → Three PlaneView
+view_frame number f = record { y = view_plane number f.planes.y; u = view_plane number f.planes.u; v = view_plane number f.planes.v }
+
+-- a rectangle of a table, cut out: its place, the columns of the table, and its entries row by row
+pub record Part (E : Type 0) : Type 0 where
+  pub rect : TileRect
+  pub table_cols : ℕ
+  pub entries : List E
+
+abbrev pub view_cut : {E : Type 0} → Cut E → Part E
+view_cut c = record { rect = cut_rect c; table_cols = cut_table_cols c; entries = cut_entries c }
+
+-- the same of samples, as numbers
+abbrev pub view_samples : {X : Type 0} → (X → ℤ) → Cut X → Part ℤ
+view_samples number c = record { rect = cut_rect c; table_cols = cut_table_cols c; entries = map number (cut_entries c) }
+
+abbrev pub view_cuts : {X : Type 0} → (X → ℤ) → Three (Cut X) → Three (Part ℤ)
+view_cuts number t = record { y = view_samples number t.y; u = view_samples number t.u; v = view_samples number t.v }
+
+-- a list with others written over its front, as long as before
+abbrev pub refilled : {E : Type 0} → List E → List E → List E
+refilled old new = take (length old) (new ++ drop (length new) old)
+
+abbrev pub with_entries : {E : Type 0} → Part E → List E → Part E
+with_entries p entries = record p { entries = refilled p.entries entries }
+
+-- the part of a frame's state that one tile is coded from: the place and the sides of the tile, the input and the
+-- deblocking state, which stay, and the samples of the tile, which the coder writes
+pub record TileState : Type 0 where
+  pub superblock : ℕ × ℕ
+  pub sb_size_log2 : ℕ
+  pub sb_width : ℕ
+  pub sb_height : ℕ
+  pub mi_width : ℕ
+  pub mi_height : ℕ
+  pub width : ℕ
+  pub height : ℕ
+  pub input : Three PlaneView
+  pub input_hres : PlaneView
+  pub input_qres : PlaneView
+  pub deblock : DeblockState
+  pub rec : Three (Part ℤ)
+
+-- that and the tile's blocks, out of a table with these sides
+pub record View : Type 0 where
+  pub ts : TileState
+  pub blocks : Part Block
+  pub frame_cols : ℕ
+  pub frame_rows : ℕ
+
+-- one of three planes, the last for every number from 2 on
+abbrev pub plane_at : {X : Type 0} → Three X → ℕ → X
+plane_at t pli = if pli == 0 then t.y else if pli == 1 then t.u else t.v
+
+-- a tile's state with these samples in plane pli
+abbrev pub with_samples : TileState → ℕ → List ℤ → TileState
+with_samples t pli samples =
+    if pli == 0 then record t { rec = record t.rec { y = with_entries t.rec.y samples } }
+    else if pli == 1 then record t { rec = record t.rec { u = with_entries t.rec.u samples } }
+    else record t { rec = record t.rec { v = with_entries t.rec.v samples } }
+
+-- a view with these blocks
+abbrev pub with_blocks : View → List Block → View
+with_blocks v blocks = record v { blocks = with_entries v.blocks blocks }
+
+-- b is a rectangle of the same place and size as a
+pub record SameRect {E : Type 0} (a b : Part E) : Type 0 where
+  pub rect : b.rect ≡ a.rect
+  pub table_cols : b.table_cols ≡ a.table_cols
+  pub length : length b.entries ≡ length a.entries
+
+-- after is before with other samples and blocks, in the same rectangles
+pub record SameShape (before after : View) : Type 0 where
+  pub state : after.ts ≡ record before.ts { rec = after.ts.rec }
+  pub y : SameRect before.ts.rec.y after.ts.rec.y
+  pub u : SameRect before.ts.rec.u after.ts.rec.u
+  pub v : SameRect before.ts.rec.v after.ts.rec.v
+  pub blocks : SameRect before.blocks after.blocks
+  pub frame_cols : after.frame_cols ≡ before.frame_cols
+  pub frame_rows : after.frame_rows ≡ before.frame_rows

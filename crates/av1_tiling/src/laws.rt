@@ -1,0 +1,30 @@
+//! Facts about every tiling that `TilingInfo::from_target_tiles` answers. Each is the contract of a
+//! function that does nothing.
+ghost use Rattle.av1_tiling.specs.Laws.{ForTilings, CutsPlanes, CutsBlocks, CutsMotion, CutsUnits, CountsByLog2};
+
+/// The rectangles of the tiles in a plane have no sample in common, and together are the plane, rounded
+/// up to whole superblocks.
+pub fn tiles_cut_planes()
+    ensures { ForTilings CutsPlanes }
+{}
+
+/// Each place of the table of blocks lies in exactly one tile.
+pub fn tiles_cut_blocks()
+    ensures { ForTilings CutsBlocks }
+{}
+
+/// Each place of a table of motion records lies in exactly one tile.
+pub fn tiles_cut_motion()
+    ensures { ForTilings CutsMotion }
+{}
+
+/// Each restoration unit lies in exactly one tile, where each of several tiles begins with a unit and the
+/// units are no more than cover the frame.
+pub fn tiles_cut_units()
+    ensures { ForTilings CutsUnits }
+{}
+
+/// The logarithms of columns and rows are those of their numbers.
+pub fn counts_have_logarithms()
+    ensures { ForTilings CountsByLog2 }
+{}

@@ -1,0 +1,98 @@
+use crate::frame_state::FrameState;
+use crate::tile_rects::{tile_blocks, tile_height, tile_superblock, tile_width};
+use crate::tile_state::TileStateMut;
+use crate::tiling_info::TilingInfo;
+use av1_block::{Block, Cut, FrameBlocks};
+use av1_plane::{Frame, OutOfMemory, Pixel};
+use std::alloc::Global;
+use std::marker::Model;
+
+/// All that one tile is coded from and into: its state and its blocks.
+#[derive(Drop)]
+pub struct TileContextMut<T: Pixel> {
+    pub ts: TileStateMut<T>,
+    blocks: Cut<Block>,
+    frame_cols: usize,
+    frame_rows: usize,
+}
+
+impl<T: Pixel> Model for TileContextMut<T> {
+    ghost use Rattle.av1_tiling.specs.Views.{View, view_cut};
+
+    ghost Value = { View };
+
+    ghost view = { λ c. record { ts = c.ts; blocks = view_cut c.blocks; frame_cols = c.frame_cols; frame_rows = c.frame_rows } };
+}
+
+impl<T: Pixel> TileContextMut<T> {
+    ghost use Rattle.std.specs.Prelude.{◌≡◌};
+    ghost use Rattle.std.specs.Borrow.{Lends, sem, Array};
+    ghost use Rattle.av1_block.specs.contracts.block.Block.{the_row as block_row};
+    ghost use Rattle.av1_tiling.specs.Views.{with_blocks};
+    ghost use Rattle.av1_tiling.specs.contracts.tile_context.TileContextMut.{the_row};
+
+    /// The tile's blocks, row by row.
+    pub fn blocks(&self) -> &[Block]
+        ensures { result.now ≡ self.now.blocks.entries }
+    {
+        self.blocks.entries()
+    }
+
+    /// The tile's blocks, row by row, for writing.
+    pub fn blocks_mut(&mut self) -> &mut [Block]
+        ensures* writes_back { sem 𝓛 (Lends (the_row T.row T.Pixel) (Array block_row 0) self.entry result (with_blocks self.old)) }
+        ensures value { result.now ≡ self.old.blocks.entries }
+    {
+        self.blocks.entries_mut()
+    }
+}
+
+impl<T: Pixel> TileContextMut<T> {
+    ghost use Rattle.std.specs.Prelude.{◌≡◌, ◌<◌, ◌*◌, IfOk};
+    ghost use Rattle.av1_block.specs.Tables.{table_entries};
+    ghost use Rattle.av1_tiling.specs.Frames.{view_of, view_state, IsTilingOf};
+
+    // The starting view of tile `n`.
+    pub(crate) fn cut(
+        alloc: Global,
+        tiling: &TilingInfo,
+        fs: &FrameState<T>,
+        fb: &FrameBlocks,
+        n: usize,
+    ) -> Result<TileContextMut<T>, OutOfMemory>
+        requires made_for { IsTilingOf tiling.now (view_state T.number fs.now).rec fb.now.cols fb.now.rows }
+        requires tile { n < tiling.now.cols * tiling.now.rows }
+        ensures { IfOk result (λ made. made ≡ view_of tiling.now (view_state T.number fs.now) (table_entries fb.now) n) }
+    {
+        let sbo = tile_superblock(tiling, n);
+        let width = tile_width(tiling, sbo);
+        let height = tile_height(tiling, sbo);
+        let ts = TileStateMut::new(alloc, fs, sbo, tiling.sb_size_log2, width, height)?;
+        let blocks = Cut::take(alloc, fb.entries(), fb.cols, tile_blocks(tiling, sbo))?;
+        Ok(TileContextMut {
+            ts,
+            blocks,
+            frame_cols: fb.cols,
+            frame_rows: fb.rows,
+        })
+    }
+}
+
+impl<T: Pixel> TileContextMut<T> {
+    ghost use Rattle.std.specs.Prelude.{◌≡◌, length};
+    ghost use Rattle.av1_block.specs.Tables.{table_entries};
+    ghost use Rattle.av1_tiling.specs.Views.{view_frame};
+    ghost use Rattle.av1_tiling.specs.Puts.{put, put_cuts, ViewLies};
+
+    // Puts the tile's samples and blocks back into a frame and its table.
+    pub(crate) fn put_back(&self, rec: &mut Frame<T>, blocks: &mut FrameBlocks)
+        requires { ViewLies (view_frame T.number rec.old) (length (table_entries blocks.old)) self.now }
+        ensures rec { view_frame T.number rec.new ≡ put_cuts (view_frame T.number rec.old) self.now.ts.rec }
+        ensures blocks { table_entries blocks.new ≡ put (table_entries blocks.old) self.now.blocks }
+        ensures cols { blocks.new.cols ≡ blocks.old.cols }
+        ensures rows { blocks.new.rows ≡ blocks.old.rows }
+    {
+        self.ts.put_back(rec);
+        self.blocks.put_back(blocks.entries_mut());
+    }
+}

@@ -1,0 +1,36 @@
+use crate::tile_context::TileContextMut;
+use av1_plane::Pixel;
+
+/// The tiles of a frame, row by row.
+#[derive(Drop)]
+pub struct TileContextIterMut<T: Pixel> {
+    // the last tile first
+    left: Vec<TileContextMut<T>>,
+}
+
+impl<T: Pixel> TileContextIterMut<T> {
+    ghost use Rattle.std.specs.Prelude.{◌≡◌, reverse};
+    ghost use Rattle.av1_tiling.specs.Tiles.{tiles_left};
+
+    pub(crate) fn new(mut contexts: Vec<TileContextMut<T>>) -> TileContextIterMut<T>
+        ensures { tiles_left result ≡ contexts.items }
+    {
+        contexts.reverse();
+        TileContextIterMut { left: contexts }
+    }
+}
+
+impl<T: Pixel> Iterator for TileContextIterMut<T> {
+    ghost use Rattle.std.specs.Iterator.{YieldsFirst, item_count};
+    ghost use Rattle.av1_tiling.specs.Tiles.{tiles_left};
+
+    type Item = TileContextMut<T>;
+
+    ghost next_gives = { YieldsFirst tiles_left };
+
+    ghost remaining = { item_count tiles_left };
+
+    fn next(&mut self) -> Option<TileContextMut<T>> {
+        self.left.pop()
+    }
+}

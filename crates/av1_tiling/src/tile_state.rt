@@ -1,0 +1,147 @@
+use crate::deblock_state::DeblockState;
+use crate::frame_state::FrameState;
+use crate::part::{cut_frame, samples_rect};
+use crate::putting::put_frame;
+use av1_block::Cut;
+use av1_plane::{Frame, OutOfMemory, Pixel, Plane, PlaneSuperBlockOffset, Three, TileRect};
+use std::alloc::Global;
+use std::marker::Model;
+use std::sync::Arc;
+
+/// What a tile is coded from, beside its blocks: its place and sides, the whole input, and the tile's
+/// part of the reconstruction, which it owns until it is put back.
+#[derive(Drop)]
+pub struct TileStateMut<T: Pixel> {
+    /// The tile's first superblock.
+    pub sbo: PlaneSuperBlockOffset,
+    pub sb_size_log2: usize,
+    /// The tile's sides in superblocks.
+    pub sb_width: usize,
+    pub sb_height: usize,
+    /// The tile's sides in units of 4 luma samples.
+    pub mi_width: usize,
+    pub mi_height: usize,
+    /// The tile's sides in luma samples.
+    pub width: usize,
+    pub height: usize,
+    pub input: Arc<Frame<T>>,
+    pub input_hres: Arc<Plane<T>>,
+    pub input_qres: Arc<Plane<T>>,
+    pub deblock: DeblockState,
+    rec: Three<Cut<T>>,
+}
+
+impl<T: Pixel> Model for TileStateMut<T> {
+    ghost use Rattle.std.specs.Arc.{arc_value};
+    ghost use Rattle.av1_tiling.specs.Views.{TileState, view_plane, view_frame, view_cuts};
+
+    ghost Value = { TileState };
+
+    ghost view = { λ t. record {
+      superblock = (t.sbo.0.x, t.sbo.0.y);
+      sb_size_log2 = t.sb_size_log2;
+      sb_width = t.sb_width;
+      sb_height = t.sb_height;
+      mi_width = t.mi_width;
+      mi_height = t.mi_height;
+      width = t.width;
+      height = t.height;
+      input = view_frame T.number (arc_value t.input);
+      input_hres = view_plane T.number (arc_value t.input_hres);
+      input_qres = view_plane T.number (arc_value t.input_qres);
+      deblock = t.deblock;
+      rec = view_cuts T.number t.rec;
+    } };
+}
+
+impl<T: Pixel> TileStateMut<T> {
+    ghost use Rattle.std.specs.Prelude.{◌≡◌, ◌<◌, map};
+    ghost use Rattle.std.specs.Borrow.{Lends, sem, Array};
+    ghost use Rattle.av1_tiling.specs.Views.{plane_at, with_samples};
+    ghost use Rattle.av1_tiling.specs.contracts.tile_state.TileStateMut.{the_row};
+
+    /// The tile's samples in plane `pli`, row by row, for writing.
+    pub fn samples_mut(&mut self, pli: usize) -> &mut [T]
+        requires { pli < 3 }
+        ensures* writes_back { sem 𝓛 (Lends (the_row T.row T.Pixel) (Array T.row 0) self.entry result (λ w. with_samples self.old pli (map T.number w))) }
+        ensures value { map T.number result.now ≡ (plane_at self.old.rec pli).entries }
+    {
+        match pli {
+            0 => self.rec.y.entries_mut(),
+            1 => self.rec.u.entries_mut(),
+            _ => self.rec.v.entries_mut(),
+        }
+    }
+}
+
+impl<T: Pixel> TileStateMut<T> {
+    ghost use Rattle.std.specs.Prelude.{◌≡◌, ◌<◌, ◌*◌, length};
+    ghost use Rattle.av1_tiling.specs.Views.{plane_at};
+
+    /// Where the tile's samples stand among the stored ones of plane `pli`.
+    pub fn samples_rect(&self, pli: usize) -> TileRect
+        requires { pli < 3 }
+        ensures place { result ≡ (plane_at self.now.rec pli).rect }
+        ensures whole { length (plane_at self.now.rec pli).entries ≡ result.width * result.height }
+    {
+        match pli {
+            0 => self.rec.y.rect(),
+            1 => self.rec.u.rect(),
+            _ => self.rec.v.rect(),
+        }
+    }
+}
+
+#[tactic(auto, using(crate::proofs::Fits::fits))]
+impl<T: Pixel> TileStateMut<T> {
+    ghost use Rattle.std.specs.Prelude.{◌≡◌, IfOk};
+    ghost use Rattle.av1_tiling.specs.Frames.{tile_state, view_state, LiesInFrame};
+
+    /// The state of the tile whose first superblock is `sbo` and whose sides in luma samples are
+    /// these, in a frame in which it lies. Superblocks have 64 samples a side.
+    pub fn new(
+        alloc: Global,
+        fs: &FrameState<T>,
+        sbo: PlaneSuperBlockOffset,
+        sb_size_log2: usize,
+        width: usize,
+        height: usize,
+    ) -> Result<TileStateMut<T>, OutOfMemory>
+        requires superblock { sb_size_log2 ≡ 6 }
+        requires tile { LiesInFrame (view_state T.number fs.now).rec (sbo.0.x, sbo.0.y) width height }
+        ensures { IfOk result (λ made. made ≡ tile_state (view_state T.number fs.now) (sbo.0.x, sbo.0.y) sb_size_log2 width height) }
+    {
+        let rec = cut_frame(alloc, &fs.rec, samples_rect(sbo, width, height))?;
+        Ok(TileStateMut {
+            sbo,
+            sb_size_log2,
+            sb_width: width.div_ceil(64),
+            sb_height: height.div_ceil(64),
+            mi_width: width / 4,
+            mi_height: height / 4,
+            width,
+            height,
+            input: Arc::try_clone(&fs.input)?,
+            input_hres: Arc::try_clone(&fs.input_hres)?,
+            input_qres: Arc::try_clone(&fs.input_qres)?,
+            deblock: fs.deblock,
+            rec,
+        })
+    }
+}
+
+impl<T: Pixel> TileStateMut<T> {
+    ghost use Rattle.std.specs.Prelude.{◌≡◌, length};
+    ghost use Rattle.av1_tiling.specs.Views.{view_frame};
+    ghost use Rattle.av1_tiling.specs.Puts.{put_cuts, PartLies};
+
+    // Puts the tile's samples back into a frame.
+    pub(crate) fn put_back(&self, rec: &mut Frame<T>)
+        requires y { PartLies (length (view_frame T.number rec.old).y.samples) self.now.rec.y }
+        requires u { PartLies (length (view_frame T.number rec.old).u.samples) self.now.rec.u }
+        requires v { PartLies (length (view_frame T.number rec.old).v.samples) self.now.rec.v }
+        ensures { view_frame T.number rec.new ≡ put_cuts (view_frame T.number rec.old) self.now.rec }
+    {
+        put_frame(rec, &self.rec);
+    }
+}
