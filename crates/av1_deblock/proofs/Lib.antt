@@ -1,0 +1,10 @@
+pub mod Folds
+pub mod WideSums
+pub mod EdgeSides
+pub mod Views
+pub mod EdgeFits
+pub mod Lines
+pub mod EdgeLists
+pub mod Planes
+pub mod EdgeLaws
+pub mod Examples

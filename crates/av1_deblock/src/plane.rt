@@ -1,0 +1,163 @@
+ghost use Rattle.std.specs.Prelude.{◌≡◌, ◌==◌, ◌+◌, ◌*◌, ◌/◌, ◌<◌, ◌≤◌, ◌^◌, true, false};
+ghost use Rattle.av1_plane.specs.Region.{numbers_under, first_place, row_step, IsSamePart};
+ghost use Rattle.av1_block.specs.Tables.{view_entries, view_step};
+ghost use Rattle.av1_deblock.specs.Line.{IsDepth};
+ghost use Rattle.av1_deblock.specs.Levels.{edge_level, level_index, IsLevelled};
+ghost use Rattle.av1_deblock.specs.Edges.{edges, GridFits, HasBlocks};
+ghost use Rattle.av1_deblock.specs.Passes.{with_edges, is_halved, units, grid_of, plane_edges, has_luma_level, has_level, is_empty, deblocked_plane, HasGrid, GridBelow};
+ghost use Rattle.av1_deblock.specs.Conditions.{IsDecimated, IsFrame, CoversPlane, CoversBlocks, HasDepth};
+
+use crate::grid::Grid;
+use crate::pass::filter_edges;
+use av1_block::TileBlocks;
+use av1_plane::{Pixel, PlaneConfig, PlaneRegionMut};
+use av1_tiling::DeblockState;
+
+fn units_of(half: bool, side: usize) -> usize
+    requires { side ≤ 65536 }
+    ensures { result ≡ units half side }
+{
+    let luma = (side + 3) / 4;
+    if half { (luma + 1) / 2 } else { luma }
+}
+
+fn has_half(pli: usize, dec: usize) -> bool
+    ensures { result ≡ is_halved pli dec }
+{
+    pli != 0 && dec == 1
+}
+
+fn grid_in(pli: usize, cfg: &PlaneConfig, vertical: bool, crop_w: usize, crop_h: usize) -> Grid
+    requires sides { IsFrame crop_w crop_h }
+    ensures { result ≡ grid_of pli cfg.now vertical crop_w crop_h }
+{
+    let half_x = has_half(pli, cfg.xdec);
+    let half_y = has_half(pli, cfg.ydec);
+    Grid {
+        luma: pli == 0,
+        vertical,
+        half_x,
+        half_y,
+        cols: units_of(half_x, crop_w),
+        rows: units_of(half_y, crop_h),
+    }
+}
+
+fn level_index_of(pli: usize, vertical: bool) -> usize
+    requires { pli ≤ 2 }
+    ensures value { result ≡ level_index pli vertical }
+    ensures inside { result < 4 }
+{
+    if pli == 0 {
+        usize::from(!vertical)
+    } else {
+        pli + 1
+    }
+}
+
+fn is_filtered(deblock: &DeblockState, pli: usize) -> bool
+    ensures { result ≡ has_level deblock.now pli }
+{
+    match pli {
+        0 => deblock.levels[0] != 0 || deblock.levels[1] != 0,
+        1 => deblock.levels[2] != 0,
+        2 => deblock.levels[3] != 0,
+        _ => false,
+    }
+}
+
+fn has_no_sample(cfg: &PlaneConfig) -> bool
+    ensures { result ≡ is_empty cfg.now }
+{
+    cfg.width == 0 || cfg.height == 0
+}
+
+// All edges of one direction.
+fn filter_direction<T: Pixel>(
+    deblock: &DeblockState,
+    p: &mut PlaneRegionMut<'_, T>,
+    pli: usize,
+    vertical: bool,
+    blocks: &TileBlocks<'_>,
+    crop_w: usize,
+    crop_h: usize,
+    bd: usize,
+)
+    requires plane { pli ≤ 2 }
+    requires filled { is_empty p.old.plane_cfg.now ≡ false }
+    requires decimated { IsDecimated pli p.old.plane_cfg.now }
+    requires levels { IsLevelled deblock.now }
+    requires region { CoversPlane crop_w crop_h p.old }
+    requires blocks { CoversBlocks crop_w crop_h blocks.now }
+    requires sides { IsFrame crop_w crop_h }
+    requires depth { IsDepth bd }
+    requires limit { 2 ^ bd ≤ T.limit }
+    requires range { HasDepth bd crop_w crop_h T.number p.old }
+    ensures part { IsSamePart p.old p.new }
+    ensures value { numbers_under T.number p.new ≡ with_edges bd (first_place p.old) (row_step p.old) (numbers_under T.number p.old) (plane_edges deblock.now pli p.old.plane_cfg.now vertical (view_entries blocks.now) (view_step blocks.now) crop_w crop_h) }
+    ensures range { HasDepth bd crop_w crop_h T.number p.new }
+{
+    let g = grid_in(pli, p.plane_cfg, vertical, crop_w, crop_h);
+    let i = level_index_of(pli, vertical);
+    filter_edges(p, g, deblock, i, blocks, bd);
+}
+
+#[tactic(auto, using(crate::proofs::Planes::passes))]
+fn filter_plane<T: Pixel>(
+    deblock: &DeblockState,
+    p: &mut PlaneRegionMut<'_, T>,
+    pli: usize,
+    blocks: &TileBlocks<'_>,
+    crop_w: usize,
+    crop_h: usize,
+    bd: usize,
+)
+    requires plane { pli ≤ 2 }
+    requires filled { is_empty p.old.plane_cfg.now ≡ false }
+    requires decimated { IsDecimated pli p.old.plane_cfg.now }
+    requires levels { IsLevelled deblock.now }
+    requires region { CoversPlane crop_w crop_h p.old }
+    requires blocks { CoversBlocks crop_w crop_h blocks.now }
+    requires sides { IsFrame crop_w crop_h }
+    requires depth { IsDepth bd }
+    requires limit { 2 ^ bd ≤ T.limit }
+    requires range { HasDepth bd crop_w crop_h T.number p.old }
+    ensures part { IsSamePart p.old p.new }
+    ensures value { numbers_under T.number p.new ≡ with_edges bd (first_place p.old) (row_step p.old) (with_edges bd (first_place p.old) (row_step p.old) (numbers_under T.number p.old) (plane_edges deblock.now pli p.old.plane_cfg.now true (view_entries blocks.now) (view_step blocks.now) crop_w crop_h)) (plane_edges deblock.now pli p.old.plane_cfg.now false (view_entries blocks.now) (view_step blocks.now) crop_w crop_h) }
+    ensures range { HasDepth bd crop_w crop_h T.number p.new }
+{
+    filter_direction(deblock, p, pli, true, blocks, crop_w, crop_h, bd);
+    filter_direction(deblock, p, pli, false, blocks, crop_w, crop_h, bd);
+}
+
+/// Deblocks a plane of a frame of `crop_w` by `crop_h` luma samples: all vertical edges, then all
+/// horizontal ones (AV1 specification, section 7.14.1).
+///
+/// `pli` is 0 for luma, 1 for U and 2 for V. A plane whose levels are 0 stays as it is, and so do an
+/// empty plane and any plane above 2.
+#[tactic(auto, using(crate::proofs::Planes::passes), unfolding(crate::specs::Passes::deblocked_plane))]
+pub fn deblock_plane<T: Pixel>(
+    deblock: &DeblockState,
+    p: &mut PlaneRegionMut<'_, T>,
+    pli: usize,
+    blocks: &TileBlocks<'_>,
+    crop_w: usize,
+    crop_h: usize,
+    bd: usize,
+)
+    requires decimated { IsDecimated pli p.old.plane_cfg.now }
+    requires levels { IsLevelled deblock.now }
+    requires region { CoversPlane crop_w crop_h p.old }
+    requires blocks { CoversBlocks crop_w crop_h blocks.now }
+    requires sides { IsFrame crop_w crop_h }
+    requires depth { IsDepth bd }
+    requires limit { 2 ^ bd ≤ T.limit }
+    requires range { HasDepth bd crop_w crop_h T.number p.old }
+    ensures part { IsSamePart p.old p.new }
+    ensures value { numbers_under T.number p.new ≡ deblocked_plane deblock.now pli p.old.plane_cfg.now (first_place p.old) (row_step p.old) (view_entries blocks.now) (view_step blocks.now) crop_w crop_h bd (numbers_under T.number p.old) }
+    ensures range { HasDepth bd crop_w crop_h T.number p.new }
+{
+    if is_filtered(deblock, pli) && !has_no_sample(p.plane_cfg) {
+        filter_plane(deblock, p, pli, blocks, crop_w, crop_h, bd);
+    }
+}

@@ -1,0 +1,35 @@
+ghost use Rattle.std.specs.Prelude.{◌≡◌, ◌+◌, ◌*◌, ◌<◌, ◌≤◌, pos, ◌≤ℤ◌, ◌<ℤ◌, length, map, slice_set};
+ghost use Rattle.av1_plane.specs.Region.{spot, samples_under, numbers_under, first_place, row_step, area, IsStored, IsSamePart};
+ghost use Rattle.av1_deblock.specs.Line.{sample};
+
+use av1_plane::{Pixel, PlaneRegionMut};
+
+/// The number at column `x` of row `y`.
+#[inline(always)]
+#[tactic(auto, using(crate::proofs::Views::reads))]
+pub fn read<T: Pixel>(p: &PlaneRegionMut<'_, T>, x: usize, y: usize) -> i32
+    requires stored { IsStored p.now }
+    requires x { x < (area p.now).width }
+    requires y { y < (area p.now).height }
+    ensures value { result ≡ sample (numbers_under T.number p.now) (spot (first_place p.now) (row_step p.now) x y) }
+    ensures low { pos 0 ≤ℤ result }
+    ensures high { result <ℤ pos T.limit }
+{
+    p.row(y)[x].to_i32()
+}
+
+/// Writes the number at column `x` of row `y`.
+#[inline(always)]
+#[tactic(auto, using(crate::proofs::Views::signed))]
+pub fn write<T: Pixel>(p: &mut PlaneRegionMut<'_, T>, x: usize, y: usize, v: i32)
+    requires stored { IsStored p.old }
+    requires x { x < (area p.old).width }
+    requires y { y < (area p.old).height }
+    requires low { pos 0 ≤ℤ v }
+    requires high { v <ℤ pos T.limit }
+    ensures part { IsSamePart p.old p.new }
+    ensures value { numbers_under T.number p.new ≡ slice_set (numbers_under T.number p.old) (spot (first_place p.old) (row_step p.old) x y) v }
+{
+    let sample = T::from_i32(v);
+    p.row_mut(y)[x] = sample;
+}
