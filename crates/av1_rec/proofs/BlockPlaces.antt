@@ -1,0 +1,112 @@
+-- What writes to a table of blocks leave at each place.
+use Rattle.std.proofs.Common.{◌≡◌, ℕ, zero, suc, ◌+◌, ◌*◌, ◌/◌, ◌%◌, ◌<◌, ◌≤◌, min, List, [], ◌∷◌, ◌++◌, take, replicate, length, get_or, set, get_or-set_same, get_or-set_other, ◌⊎◌, inl, inr, ap, refl, sym, ◌∙◌, length-append, arith}
+use Rattle.std.specs.Prelude.{◌==◌, ◌&&◌, if◌then◌else◌, nat_le, nat_lt}
+use Rattle.std.proofs.lemmas.Nat.{mul-le, div-add-mod', div_below, mod_below}
+use Rattle.std.proofs.lemmas.List.{take_more, ext_get_or, get_or_append_left, get_or_push}
+use Rattle.std.proofs.lemmas.Bool.Decides.{nat_tests}
+use Rattle.std.proofs.lemmas.Bool.{cases_lt}
+use Rattle.av1_block.specs.Block.{default_block}
+use Rattle.av1_block.specs.Tables.{entry_at}
+use Rattle.av1_block.specs.declared.block.Block.{Block}
+use Rattle.av1_rec.specs.declared.block_line.BlockLine.{BlockLine}
+use Rattle.av1_rec.specs.BlockTable.{holds, block_after, first_values, blocks_said}
+
+-- what a list holds after one write
+pub read_set : (xs : List Block) (p i : ℕ) (v : Block) → p < length xs → get_or (set xs p v) i default_block ≡ (if i == p then v else get_or xs i default_block)
+read_set xs p i v l =
+    let here : get_or (set xs p v) p default_block ≡ v = get_or-set_same xs p v default_block l in
+    let other : (i ≡ p → ⊥) → get_or (set xs p v) i default_block ≡ get_or xs i default_block = get_or-set_other xs p i v default_block in
+    let same : i ≡ p → get_or (set xs p v) i default_block ≡ get_or (set xs p v) p default_block = λ e. ap (λ n. get_or (set xs p v) n default_block) e in
+    grind (arith, nat_tests)
+
+-- a place of another row stands before or behind this row
+row_before : (s x k y : ℕ) → x < s → k < y → k * s + x < y * s
+row_before s x k y h l =
+    let all : (k + 1) * s ≤ y * s = mul-le (k + 1) s y s (omega arith) (omega arith) in
+    omega arith
+
+row_behind : (s x k y : ℕ) → y < k → y * s + s ≤ k * s + x
+row_behind s x k y l =
+    let all : (y + 1) * s ≤ k * s = mul-le (y + 1) s k s (omega arith) (omega arith) in
+    omega arith
+
+-- a run of row y written, behind the rows from top on
+pub row_written : (cols left right top y x k : ℕ) (b old : Block) (ys zs : List Block) → x < cols → right ≤ cols → top ≤ y
+    → ((i : ℕ) → get_or zs i default_block ≡ (if nat_le (y * cols + left) i && nat_lt i (y * cols + right) then b else get_or ys i default_block))
+    → entry_at ys cols x k ≡ (if (nat_le left x && nat_lt x right) && (nat_le top k && nat_lt k y) then b else old)
+    → entry_at zs cols x k ≡ (if (nat_le left x && nat_lt x right) && (nat_le top k && nat_lt k (y + 1)) then b else old)
+row_written cols left right top y x k b old ys zs hx hr ht f before =
+    let here : get_or zs (k * cols + x) default_block ≡ (if nat_le (y * cols + left) (k * cols + x) && nat_lt (k * cols + x) (y * cols + right) then b else get_or ys (k * cols + x) default_block) = f (k * cols + x) in
+    let above : k < y → k * cols + x < y * cols = row_before cols x k y hx in
+    let below : y < k → y * cols + cols ≤ k * cols + x = row_behind cols x k y in
+    let same : k ≡ y → k * cols ≡ y * cols = λ e. ap (λ n. n * cols) e in
+    grind (arith, nat_tests)
+
+-- inside the table a line's rectangle is the one that is cut to it
+pub cut_holds : (cols rows x y : ℕ) (line : BlockLine) (b old : Block) → x < cols → y < rows
+    → (if (nat_le (min line.x (min (line.x + line.cols) cols)) x && nat_lt x (min (line.x + line.cols) cols)) && (nat_le (min line.y (min (line.y + line.rows) rows)) y && nat_lt y (min (line.y + line.rows) rows)) then b else old)
+    ≡ (if holds line x y then b else old)
+cut_holds cols rows x y line b old hx hy = grind (arith, nat_tests)
+
+-- one line more
+after_more : (lines : List BlockLine) (line : BlockLine) (before : Block) (x y : ℕ) → block_after before (lines ++ line ∷ []) x y ≡ (if holds line x y then line.block else block_after before lines x y)
+after_more [] line before x y = refl
+after_more (l ∷ lines) line before x y = after_more lines line (if holds l x y then l.block else before) x y
+
+pub line_written : (lines : List BlockLine) (line : BlockLine) (i x y : ℕ) (entry old : Block) → i < length lines → line ≡ get_or lines i line
+    → old ≡ block_after default_block (take i lines) x y → entry ≡ (if holds line x y then line.block else old) → entry ≡ block_after default_block (take (i + 1) lines) x y
+line_written lines line i x y entry old lt e so_far now =
+    let taken : take (i + 1) lines ≡ take i lines ++ line ∷ [] = take_more lines i line lt ∙ ap (λ (l : BlockLine). take i lines ++ l ∷ []) (sym e) in
+    now ∙ ap (λ (b : Block). if holds line x y then line.block else b) so_far ∙ sym (after_more (take i lines) line default_block x y) ∙ ap (λ (l : List BlockLine). block_after default_block l x y) (sym taken)
+
+first_count : (f : ℕ → Block) (n : ℕ) → length (first_values f n) ≡ n
+first_count f zero = refl
+first_count f (suc n) = let e : length (first_values f n) ≡ n = first_count f n in omega (arith, length-append {A = Block} (first_values f n) (f n ∷ []))
+
+first_at : (f : ℕ → Block) (n i : ℕ) → i < n → get_or (first_values f n) i default_block ≡ f i
+first_at f zero i lt = absurd (omega arith)
+first_at f (suc n) i lt = choose (first_at f n i) (cases_lt i n)
+  where
+    choose : (i < n → get_or (first_values f n) i default_block ≡ f i) → (i < n) ⊎ (n ≤ i) → get_or (first_values f n ++ f n ∷ []) i default_block ≡ f i
+    choose before (inl l) = let c : length (first_values f n) ≡ n = first_count f n in get_or_append_left (first_values f n) (f n ∷ []) default_block i (omega arith) ∙ before l
+    choose before (inr g) = let here : i ≡ n = omega arith in get_or_push (first_values f n) (f n) default_block i (first_count f n ∙ sym here) ∙ ap f (sym here)
+
+some_column : (cols rows i : ℕ) → i < cols * rows → 0 < cols
+some_column zero rows i lt = let none : 0 * rows ≡ 0 = omega arith in absurd (omega arith)
+some_column (suc cols) rows i lt = omega arith
+
+-- a fresh table has the default block everywhere
+pub fresh : (n i : ℕ) → get_or (replicate n default_block) i default_block ≡ default_block
+fresh zero i = refl
+fresh (suc n) zero = refl
+fresh (suc n) (suc i) = fresh n i
+
+-- the table that has these entries at all places
+pub all_said : (cols rows : ℕ) (lines : List BlockLine) (items : List Block) → length items ≡ cols * rows
+    → ((x y : ℕ) → x < cols → y < rows → entry_at items cols x y ≡ block_after default_block lines x y) → items ≡ blocks_said cols rows lines
+unfolding blocks_said
+all_said cols rows lines items count f =
+    ext_get_or default_block items (first_values said (cols * rows)) (count ∙ sym (first_count said (cols * rows))) (λ i lt. let within : i < cols * rows = omega arith in at_place i within ∙ sym (first_at said (cols * rows) i within))
+  where
+    said : ℕ → Block
+    said k = block_after default_block lines (k % cols) (k / cols)
+
+    at_place : (i : ℕ) → i < cols * rows → get_or items i default_block ≡ block_after default_block lines (i % cols) (i / cols)
+    at_place i lt =
+        let some : 0 < cols = some_column cols rows i lt in
+        let column : i % cols < cols = mod_below i cols some in
+        let row : i / cols < rows = div_below i cols rows some (omega arith) in
+        let place : i ≡ i / cols * cols + i % cols = sym (div-add-mod' i cols) in
+        ap (λ n. get_or items n default_block) place ∙ f (i % cols) (i / cols) column row
+
+all_lines : (lines : List BlockLine) (i : ℕ) → length lines ≤ i → take i lines ≡ lines
+all_lines [] zero le = refl
+all_lines [] (suc i) le = refl
+all_lines (l ∷ lines) zero le = absurd (omega arith)
+all_lines (l ∷ lines) (suc i) le = ap (λ (m : List BlockLine). l ∷ m) (all_lines lines i (omega arith))
+
+-- all lines were written
+pub lines_written : (cols rows i : ℕ) (lines : List BlockLine) (items : List Block) → length lines ≤ i → length items ≡ cols * rows
+    → ((x y : ℕ) → x < cols → y < rows → entry_at items cols x y ≡ block_after default_block (take i lines) x y) → items ≡ blocks_said cols rows lines
+lines_written cols rows i lines items le count f =
+    all_said cols rows lines items count (λ x y hx hy. f x y hx hy ∙ ap (λ (l : List BlockLine). block_after default_block l x y) (all_lines lines i le))

@@ -1,0 +1,11 @@
+pub mod Pieces
+pub mod Numbers
+pub mod Samples
+pub mod Many
+pub mod Lengths
+pub mod OneTile
+pub mod Ends
+pub mod RegionRows
+pub mod BlockPlaces
+pub mod RecordedRows
+pub mod RecordedEntries

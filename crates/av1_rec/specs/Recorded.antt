@@ -1,0 +1,76 @@
+-- What a coder of recorded results makes of a view: the bytes recorded for the tile that begins at the view's first
+-- superblock, and the view with the tile's recorded samples and blocks. Samples are recorded where they are inside the
+-- plane, whose sides are whole blocks of 8 luma samples; the rest of the view stays. Tiles are counted row by row (AV1
+-- specification, section 5.11.1).
+use Rattle.std.specs.Prelude.{ℕ, ℤ, ◌+◌, ◌-◌, ◌*◌, ◌==◌, ◌&&◌, nat_lt, min, List, [], ◌∷◌, length, Bool, Option, Some, None, if◌then◌else◌}
+use Rattle.std.specs.List.{list_all, flat_map}
+use Rattle.av1_plane.specs.declared.three.Three.{Three}
+use Rattle.av1_block.specs.declared.block.Block.{Block}
+use Rattle.av1_block.specs.Cut.{with_cut}
+use Rattle.av1_tiling.specs.declared.tiling_info.TilingInfo.{TilingInfo}
+use Rattle.av1_tiling.specs.TileRects.{tile_superblock}
+use Rattle.av1_tiling.specs.Views.{View, TileState, plane_at, with_samples, with_blocks}
+use Rattle.av1_rec.specs.Lines.{said_planes}
+use Rattle.av1_rec.specs.declared.recorded_tile.RecordedTile.{RecordedTile}
+use Rattle.av1_rec.specs.declared.recorded_tile.RecordedTile.TheVariants.{Refused, Coded}
+
+-- tile n is in the grid, and its first superblock is this one
+abbrev pub begins_at : TilingInfo → ℕ × ℕ → ℕ → Bool
+begins_at t superblock n =
+    nat_lt n (t.cols * t.rows) && ((tile_superblock t n).0 == superblock.0 && (tile_superblock t n).1 == superblock.1)
+
+-- of the entries of the tiles from n on, the first whose tile begins there
+unfoldable pub entry_at : {E : Type 0} → TilingInfo → ℕ × ℕ → ℕ → List E → Option E
+entry_at t superblock n [] = None
+entry_at t superblock n (e ∷ es) = if begins_at t superblock n then Some e else entry_at t superblock (n + 1) es
+
+-- how much of a line of this length from `start` on is before the end of a plane that is `inside` long from `origin` on
+abbrev pub length_inside : (origin inside start length : ℕ) → ℕ
+length_inside origin inside start length = min length (origin + inside - start)
+
+-- the columns and rows of plane pli of a view that are inside the plane
+abbrev pub sides_inside : TileState → ℕ → ℕ × ℕ
+sides_inside t pli =
+    let cfg = (plane_at t.input pli).cfg in
+    let rect = (plane_at t.rec pli).rect in
+    (length_inside cfg.xorigin cfg.width rect.x rect.width, length_inside cfg.yorigin cfg.height rect.y rect.height)
+
+-- so many rows, each so long
+abbrev pub have_sides : {E : Type 0} → ℕ × ℕ → List (List E) → Bool
+have_sides sides rows = length rows == sides.1 && list_all (λ row. length row == sides.0) rows
+
+-- the rows, one behind another
+abbrev pub joined : {E : Type 0} → List (List E) → List E
+joined rows = flat_map (λ row. row) rows
+
+-- a tile's state with these rows in the columns and rows of plane pli that are inside the plane
+abbrev pub with_rows : TileState → ℕ → List (List ℤ) → TileState
+with_rows t pli rows =
+    let part = plane_at t.rec pli in
+    with_samples t pli (with_cut part.entries part.rect.width 0 0 (sides_inside t pli).0 (sides_inside t pli).1 (joined rows))
+
+-- the rows of all planes have the sides of the view's parts inside the planes
+abbrev pub planes_fit : TileState → Three (List (List ℤ)) → Bool
+planes_fit t rows =
+    have_sides (sides_inside t 0) rows.y && (have_sides (sides_inside t 1) rows.u && have_sides (sides_inside t 2) rows.v)
+
+abbrev pub with_planes : TileState → Three (List (List ℤ)) → TileState
+with_planes t rows = with_rows (with_rows (with_rows t 0 rows.y) 1 rows.u) 2 rows.v
+
+-- the view with the recorded samples and blocks
+abbrev pub with_recorded : View → Three (List (List ℤ)) → List Block → View
+with_recorded v rows blocks = with_blocks (record v { ts = with_planes v.ts rows }) blocks
+
+module _ {T : Type 0} (number : T → ℤ) where
+  -- what a recorded result makes of a view
+  abbrev pub entry_meaning : Option (RecordedTile T) → View → Option (List ℕ × View)
+  entry_meaning None v = None
+  entry_meaning (Some Refused) v = None
+  entry_meaning (Some (Coded bytes rows blocks)) v =
+      if planes_fit v.ts (said_planes number rows) && length blocks.items == length v.blocks.entries
+      then Some (bytes.items, with_recorded v (said_planes number rows) blocks.items)
+      else None
+
+  -- what the results recorded for the tiles of a grid make of it
+  abbrev pub recorded_meaning : TilingInfo → List (RecordedTile T) → View → Option (List ℕ × View)
+  recorded_meaning tiling tiles v = entry_meaning (entry_at tiling v.ts.superblock 0 tiles) v

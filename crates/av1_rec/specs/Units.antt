@@ -1,0 +1,71 @@
+-- Lines that set restoration units of a tile: no filter, a Wiener filter or a self-guided one (AV1 specification,
+-- section 5.11.58).
+use Rattle.std.specs.Prelude.{ℕ, ℤ, List, [], ◌∷◌, ◌==◌, nat_lt, if◌then◌else◌, Option, Some, None, codes}
+use Rattle.av1_plane.specs.declared.three.Three.{Three}
+use Rattle.av1_rec.specs.declared.extent.Extent.{Extent}
+use Rattle.av1_rec.specs.Fields.{◌>>=◌, tag, number_in, field, delta}
+
+-- what a unit does: nothing, the coefficients of both directions, or a set and two weights
+pub data UnitFilter : Type 0 where
+  NoFilter : UnitFilter
+  Wiener : List ℤ → List ℤ → UnitFilter
+  SelfGuided : ℕ → List ℤ → UnitFilter
+
+-- a unit of a plane, counted from the tile's first one
+pub record UnitLine : Type 0 where
+  pub plane : ℕ
+  pub x : ℕ
+  pub y : ℕ
+  pub filter : UnitFilter
+
+-- a space, and a number below a limit
+unfoldable pub place : ℕ → List ℕ → Option (ℕ × List ℕ)
+place limit text = do
+  n ← field 0 4294967295 text
+  if nat_lt n.0 limit then Some n else None
+
+-- three signed numbers, each behind a space
+unfoldable pub three_taps : List ℕ → Option (List ℤ × List ℕ)
+three_taps text = do
+  a ← delta text
+  b ← delta a.1
+  c ← delta b.1
+  Some (a.0 ∷ b.0 ∷ c.0 ∷ [], c.1)
+
+-- ` wiener A B C D E F`
+unfoldable pub wiener : List ℕ → Option (UnitFilter × List ℕ)
+wiener text = do
+  rest ← tag (codes " wiener") text
+  vertical ← three_taps rest
+  horizontal ← three_taps vertical.1
+  Some (Wiener vertical.0 horizontal.0, horizontal.1)
+
+-- ` sgrproj SET W0 W1`
+unfoldable pub self_guided : List ℕ → Option (UnitFilter × List ℕ)
+self_guided text = do
+  rest ← tag (codes " sgrproj") text
+  set ← field 0 255 rest
+  first ← delta set.1
+  second ← delta first.1
+  Some (SelfGuided set.0 (first.0 ∷ second.0 ∷ []), second.1)
+
+-- ` none`, or one of those
+unfoldable pub filter : List ℕ → Option (UnitFilter × List ℕ)
+filter text = elim (tag (codes " none") text) [
+  | Some rest ↦ Some (NoFilter, rest)
+  | None ↦ elim (wiener text) [ Some x ↦ Some x | None ↦ self_guided text ]
+]
+
+-- the entry of a plane
+abbrev pub of_plane : {A : Type 0} → ℕ → Three A → A
+of_plane p three = if p == 0 then three.y else (if p == 1 then three.u else three.v)
+
+-- `P X Y` and what that unit of the tile does; the tile has so many units of each plane
+unfoldable pub unit_line : Three Extent → List ℕ → Option (UnitLine × List ℕ)
+unit_line units text = do
+  p ← number_in 0 2 text
+  x ← place (of_plane p.0 units).width p.1
+  y ← place (of_plane p.0 units).height x.1
+  f ← filter y.1
+  rest ← tag (codes "\n") f.1
+  Some (record { plane = p.0; x = x.0; y = y.0; filter = f.0 }, rest)

@@ -1,0 +1,246 @@
+use super::*;
+use crate::block_line::BlockLine;
+use crate::block_table::blocks_said;
+use crate::report::{Results, report};
+use av1_block::{Block, BlockSize};
+use av1_frame::{GroupError, OpenGate};
+use av1_plane::{Plane, PlaneRegion, Rect};
+use std::alloc::{AllocError, Global};
+use std::test::*;
+use std::thread::Threads;
+
+const HEADER: &[u8] =
+    b"av1rec 1\nframe 16 8 400 8\ntiling 25 1 0 0\ntype key\nquant 100 100\nswitches 1 0 0 0 0\ndeltas 0 0 0 0 0 0 0 0 0 0 0 0 0 0\ncdef 3 0 0 0 0 0 0 0 0 0 0 0 0 0 0 0 0\n";
+
+const ROWS: &[u8] =
+    b"64646464646464646868686868686868\n64646464646464646868686868686868\n64646464646464646868686868686868\n64646464646464646868686868686868\n64646464646464646868686868686868\n64646464646464646868686868686868\n64646464646464646868686868686868\n64646464646464646868686868686868\n";
+
+const BLOCKS: &[u8] =
+    b"blocks 2\n0 0 2 2 3 1 0 0 0 8 2 2 0 0 0 0 0 0\n2 0 2 2 3 1 0 0 0 8 2 2 0 0 0 0 0 0\n";
+
+fn joined(alloc: Global, parts: &[&[u8]]) -> Result<Vec<u8>, AllocError> {
+    let mut text = Vec::new(alloc);
+    for part in parts {
+        text.extend_from_slice(part)?;
+    }
+    Ok(text)
+}
+
+fn right_text(alloc: Global) -> Result<Vec<u8>, AllocError> {
+    joined(
+        alloc,
+        &[
+            HEADER,
+            b"source\n",
+            ROWS,
+            b"tile 0 07\n",
+            ROWS,
+            BLOCKS,
+            b"units 0\nend\n",
+        ],
+    )
+}
+
+fn split(alloc: Global, line: &str) -> Result<Vec<String>, AllocError> {
+    let mut words = Vec::new(alloc);
+    for word in line.split(' ') {
+        words.push(String::from_str(alloc, word)?)?;
+    }
+    Ok(words)
+}
+
+// How a run over a text in memory ends, and what it prints.
+fn ran<R: Threads + Sync>(
+    rt: &R,
+    alloc: Global,
+    words: &str,
+    text: Vec<u8>,
+) -> Result<(Status, Vec<u8>), AllocError> {
+    let words = split(alloc, words)?;
+    let mut source = PlainSource::new(text);
+    let mut sink = PlainSink::new(alloc);
+    let status = run(rt, alloc, &words, &mut source, &mut sink, &OpenGate);
+    Ok((status, Vec::from_slice(alloc, sink.bytes())?))
+}
+
+#[test]
+fn reads_a_right_text(rt: HostRuntime) -> Result<(), Fail> {
+    let (status, printed) = ran(&rt, rt.alloc(), "group 1", right_text(rt.alloc())?)?;
+    assert_eq!(rt; status, Status::NotBuilt);
+    assert_eq!(rt; printed.as_slice(), b"refused not built\n".as_slice());
+    Ok(())
+}
+
+#[test]
+fn refuses_words(rt: HostRuntime) -> Result<(), Fail> {
+    for (words, code, line) in [
+        ("group 01", 2, b"refused usage\n".as_slice()),
+        ("group", 2, b"refused usage\n".as_slice()),
+        ("group 4294967296", 2, b"refused usage\n".as_slice()),
+        ("tiles 1", 2, b"refused usage\n".as_slice()),
+        ("group 2", 9, b"refused not built\n".as_slice()),
+        ("tiles", 9, b"refused not built\n".as_slice()),
+        ("gen 7 4294967295", 9, b"refused not built\n".as_slice()),
+    ] {
+        let (status, printed) = ran(&rt, rt.alloc(), words, right_text(rt.alloc())?)?;
+        assert_eq!(rt; status.code(), code);
+        assert_eq!(rt; printed.as_slice(), line);
+    }
+    Ok(())
+}
+
+const FRAME_OF_ONE_COLUMN: &[u8] =
+    b"av1rec 1\nframe 1 8 400 8\ntiling 25 1 0 0\ntype key\nquant 100 100\nswitches 1 0 1 1 0\n";
+
+const OTHER_SAMPLING: &[u8] =
+    b"av1rec 1\nframe 16 8 420 8\ntiling 25 1 0 0\ntype key\nquant 100 100\nswitches 1 0 0 0 0\ndeltas 0 0 0 0 0 0 0 0 0 0 0 0 0 0\ncdef 3 0 0 0 0 0 0 0 0 0 0 0 0 0 0 0 0\n";
+
+#[test]
+fn refuses_texts(rt: HostRuntime) -> Result<(), Fail> {
+    let alloc = rt.alloc();
+    let rows = joined(alloc, &[HEADER, b"source\n", ROWS])?;
+    let tile = joined(alloc, &[rows.as_slice(), b"tile 0 07\n", ROWS])?;
+    for (front, rest, line) in [
+        (
+            b"".as_slice(),
+            b"".as_slice(),
+            b"refused syntax line 1\n".as_slice(),
+        ),
+        (HEADER, b"source\n64646464", b"refused syntax line 10\n"),
+        (rows.as_slice(), b"tile 0 0\n", b"refused syntax line 18\n"),
+        (rows.as_slice(), b"tile 1 07\n", b"refused syntax line 18\n"),
+        (
+            tile.as_slice(),
+            b"blocks 1\n3 0 2 2 3 1 0 0 0 8 2 2 0 0 0 0 0 0\n",
+            b"refused syntax line 28\n",
+        ),
+        (
+            tile.as_slice(),
+            b"blocks 0\nunits 0\nend\n\n",
+            b"refused syntax line 30\n",
+        ),
+        (
+            tile.as_slice(),
+            b"blocks 0\nunits 1\n",
+            b"refused not built\n",
+        ),
+        (FRAME_OF_ONE_COLUMN, b"", b"refused syntax line 6\n"),
+        (OTHER_SAMPLING, b"", b"refused not built\n"),
+    ] {
+        let (_, printed) = ran(&rt, alloc, "group 1", joined(alloc, &[front, rest])?)?;
+        assert_eq!(rt; printed.as_slice(), line);
+    }
+    Ok(())
+}
+
+#[test]
+fn tells_a_failing_read(rt: HostRuntime) -> Result<(), Fail> {
+    let alloc = rt.alloc();
+    let words = split(alloc, "group 1")?;
+    let mut failing = Vec::new(alloc);
+    failing.push(1u64)?;
+    let mut source = MemorySource::new(right_text(alloc)?, 100, failing);
+    let mut sink = MemorySink::new(alloc, 10, Vec::new(alloc));
+    let status = run(&rt, alloc, &words, &mut source, &mut sink, &OpenGate);
+    assert_eq!(rt; status, Status::ReadFault);
+    assert_eq!(rt; sink.bytes(), b"refused read\n".as_slice());
+    Ok(())
+}
+
+#[test]
+fn tells_a_failing_write(rt: HostRuntime) -> Result<(), Fail> {
+    let alloc = rt.alloc();
+    let words = split(alloc, "group 1")?;
+    let mut failing = Vec::new(alloc);
+    failing.push(2u64)?;
+    let text = joined(alloc, &[HEADER, b"source\n64646464"])?;
+    let mut source = MemorySource::new(text, 100, Vec::new(alloc));
+    let mut sink = MemorySink::new(alloc, 10, failing);
+    let status = run(&rt, alloc, &words, &mut source, &mut sink, &OpenGate);
+    assert_eq!(rt; status, Status::WriteFault);
+    assert_eq!(rt; sink.bytes(), b"refused syntax line ".as_slice());
+    Ok(())
+}
+
+#[test]
+fn runs_over_std_streams(rt: HostRuntime) -> Result<(), Fail> {
+    let alloc = rt.alloc();
+    let words = split(alloc, "group 1")?;
+    let mut source = ReadSource::new(b"av1rec 2\n".as_slice());
+    let mut sink = WriteSink::new(Vec::new(alloc));
+    let status = run(&rt, alloc, &words, &mut source, &mut sink, &OpenGate);
+    assert_eq!(rt; status, Status::Syntax { line: 1 });
+    Ok(())
+}
+
+#[test]
+fn numbers_statuses(rt: HostRuntime) {
+    let error = GroupError::EmptyTile { tile: 0 };
+    assert_eq!(rt; Status::Done.code(), 0);
+    assert_eq!(rt; Status::Group(error).code(), 7);
+    assert_eq!(rt; Status::NotBuilt.code(), 9);
+}
+
+#[test]
+fn writes_later_blocks_over_earlier_ones(rt: HostRuntime) -> Result<(), Fail> {
+    let mut small = Block::default();
+    small.bsize = BlockSize::BLOCK_4X4;
+    let mut wide = Block::default();
+    wide.bsize = BlockSize::BLOCK_8X4;
+    let lines = [
+        BlockLine {
+            x: 0,
+            y: 0,
+            cols: 2,
+            rows: 2,
+            block: small,
+        },
+        BlockLine {
+            x: 1,
+            y: 1,
+            cols: 2,
+            rows: 1,
+            block: wide,
+        },
+    ];
+    let blocks = blocks_said(rt.alloc(), 3, 2, &lines)?;
+    let mut sizes = Vec::new(rt.alloc());
+    for block in &blocks {
+        sizes.push(block.bsize)?;
+    }
+    let want = [
+        BlockSize::BLOCK_4X4,
+        BlockSize::BLOCK_4X4,
+        BlockSize::BLOCK_64X64,
+        BlockSize::BLOCK_4X4,
+        BlockSize::BLOCK_8X4,
+        BlockSize::BLOCK_8X4,
+    ];
+    assert_eq!(rt; sizes.as_slice(), want.as_slice());
+    Ok(())
+}
+
+#[test]
+fn reports(rt: HostRuntime) -> Result<(), Fail> {
+    let plane: Plane<u8> = Plane::new(rt.alloc(), 2, 2, 0, 0, 0, 0)?;
+    let rect = Rect {
+        x: 0,
+        y: 0,
+        width: 2,
+        height: 2,
+    };
+    let samples: [u8; 4] = [100, 101, 102, 255];
+    let region = PlaneRegion::from_part(&samples, 2, &plane.cfg, rect);
+    let results = Results {
+        levels: [5, 63, 0, 1],
+        size_bytes: 2,
+        context_tile: 10,
+        group: &[0, 255],
+        wide: false,
+    };
+    let text = report(rt.alloc(), &results, &[region])?;
+    let want =
+        b"levels 5 63 0 1\nsize_bytes 2\ncontext_tile 10\ngroup 00ff\nplane 0\n6465\n66ff\nend\n";
+    assert_eq!(rt; text.as_slice(), want.as_slice());
+    Ok(())
+}
