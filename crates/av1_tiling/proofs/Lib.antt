@@ -1,4 +1,5 @@
 mod Examples
+pub mod Blank
 pub mod LeastFacts
 pub mod Refills
 pub mod Fits

@@ -1,6 +1,6 @@
 -- What the filters and the coder take a frame to be: what stays while it is coded, what changes, and the conditions
 -- under which both fit together. Samples are numbers, and no storage is in it.
-use Rattle.std.specs.Prelude.{ℕ, zero, suc, ℤ, ◌+◌, ◌*◌, ◌/◌, ◌^◌, ◌<◌, ◌≤◌, ◌≡◌, ◌==◌, ◌||◌, ◌⊎◌, Bool, true, false, List, [], ◌∷◌, ◌++◌, All, Some, if◌then◌else◌}
+use Rattle.std.specs.Prelude.{ℕ, zero, suc, ℤ, pos, replicate, ◌+◌, ◌*◌, ◌/◌, ◌^◌, ◌<◌, ◌≤◌, ◌≡◌, ◌==◌, ◌||◌, ◌⊎◌, Bool, true, false, List, [], ◌∷◌, ◌++◌, All, Some, if◌then◌else◌}
 use Rattle.std.specs.Int.{div_ceil}
 use Rattle.std.specs.Arc.{arc_value}
 use Rattle.av1_plane.specs.Numbers.{InDepth}
@@ -13,6 +13,7 @@ use Rattle.av1_plane.specs.declared.tile_rect.TileRect.{TileRect}
 use Rattle.av1_block.specs.declared.block.Block.{Block}
 use Rattle.av1_block.specs.Cut.{cut_of}
 use Rattle.av1_tiling.specs.declared.deblock_state.DeblockState.{DeblockState}
+use Rattle.av1_tiling.specs.Deblock.{default_deblock}
 use Rattle.av1_tiling.specs.declared.sequence.Sequence.{Sequence}
 use Rattle.av1_tiling.specs.declared.frame_invariants.FrameType.{FrameType}
 use Rattle.av1_tiling.specs.declared.frame_invariants.FrameInvariants.{FrameInvariants}
@@ -135,6 +136,33 @@ pub record IsStateFor (p : Parameters) (s : State) : Type 0 where
   pub u_range : IsInRange (2 ^ p.sequence.bit_depth) s.input.u
   pub v_range : IsInRange (2 ^ p.sequence.bit_depth) s.input.v
   pub shift : s.deblock.block_delta_shift ≤ 3
+
+-- planes that can be the input of a frame
+pub record IsInputFor (p : Parameters) (f : Three PlaneView) : Type 0 where
+  pub layout : layouts f ≡ frame_layout p.width p.height p.sequence.chroma_sampling
+  pub y_range : IsInRange (2 ^ p.sequence.bit_depth) f.y
+  pub u_range : IsInRange (2 ^ p.sequence.bit_depth) f.u
+  pub v_range : IsInRange (2 ^ p.sequence.bit_depth) f.v
+
+-- a plane of this layout, and a frame of these sides, all samples zero
+abbrev pub blank : PlaneConfig → PlaneView
+blank cfg = record { cfg = cfg; samples = replicate (cfg.stride * cfg.alloc_height) (pos 0) }
+
+abbrev pub blank_frame : ℕ → ℕ → ChromaSampling → Three PlaneView
+blank_frame width height sampling =
+    let layout = frame_layout width height sampling in record { y = blank layout.y; u = blank layout.u; v = blank layout.v }
+
+-- the state that coding a frame with this input begins with
+abbrev pub start : Parameters → Three PlaneView → (hres qres : PlaneView) → State
+start p input hres qres = record {
+  input = input;
+  input_hres = hres;
+  input_qres = qres;
+  rec = blank_frame p.width p.height p.sequence.chroma_sampling;
+  context_update_tile_id = 0;
+  max_tile_size_bytes = 0;
+  deblock = default_deblock;
+}
 
 -- no rectangle
 abbrev pub no_rect : TileRect
