@@ -1,15 +1,15 @@
 -- What writes to a table of blocks leave at each place.
-use Rattle.std.proofs.Common.{◌≡◌, ℕ, zero, suc, ◌+◌, ◌*◌, ◌/◌, ◌%◌, ◌<◌, ◌≤◌, min, List, [], ◌∷◌, ◌++◌, take, replicate, length, get_or, set, get_or-set_same, get_or-set_other, ◌⊎◌, inl, inr, ap, refl, sym, ◌∙◌, length-append, arith}
+use Rattle.std.proofs.Common.{◌≡◌, ℕ, zero, suc, ◌+◌, ◌*◌, ◌<◌, ◌≤◌, min, List, [], ◌∷◌, ◌++◌, take, replicate, length, get_or, set, get_or-set_same, get_or-set_other, ap, refl, sym, ◌∙◌, arith}
 use Rattle.std.specs.Prelude.{◌==◌, ◌&&◌, if◌then◌else◌, nat_le, nat_lt}
-use Rattle.std.proofs.lemmas.Nat.{mul-le, div-add-mod', div_below, mod_below}
-use Rattle.std.proofs.lemmas.List.{take_more, ext_get_or, get_or_append_left, get_or_push}
+use Rattle.std.proofs.lemmas.Nat.{mul-le}
+use Rattle.std.proofs.lemmas.List.{take_more}
 use Rattle.std.proofs.lemmas.Bool.Decides.{nat_tests}
-use Rattle.std.proofs.lemmas.Bool.{cases_lt}
 use Rattle.av1_block.specs.Block.{default_block}
 use Rattle.av1_block.specs.Tables.{entry_at}
 use Rattle.av1_block.specs.declared.block.Block.{Block}
 use Rattle.av1_rec.specs.declared.block_line.BlockLine.{BlockLine}
-use Rattle.av1_rec.specs.BlockTable.{holds, block_after, first_values, blocks_said}
+use Rattle.av1_rec.specs.BlockTable.{holds, block_after, blocks_said}
+use Rattle.av1_rec.proofs.FirstValues.{by_places}
 
 -- what a list holds after one write
 pub read_set : (xs : List Block) (p i : ℕ) (v : Block) → p < length xs → get_or (set xs p v) i default_block ≡ (if i == p then v else get_or xs i default_block)
@@ -59,22 +59,6 @@ line_written lines line i x y entry old lt e so_far now =
     let taken : take (i + 1) lines ≡ take i lines ++ line ∷ [] = take_more lines i line lt ∙ ap (λ (l : BlockLine). take i lines ++ l ∷ []) (sym e) in
     now ∙ ap (λ (b : Block). if holds line x y then line.block else b) so_far ∙ sym (after_more (take i lines) line default_block x y) ∙ ap (λ (l : List BlockLine). block_after default_block l x y) (sym taken)
 
-first_count : (f : ℕ → Block) (n : ℕ) → length (first_values f n) ≡ n
-first_count f zero = refl
-first_count f (suc n) = let e : length (first_values f n) ≡ n = first_count f n in omega (arith, length-append {A = Block} (first_values f n) (f n ∷ []))
-
-first_at : (f : ℕ → Block) (n i : ℕ) → i < n → get_or (first_values f n) i default_block ≡ f i
-first_at f zero i lt = absurd (omega arith)
-first_at f (suc n) i lt = choose (first_at f n i) (cases_lt i n)
-  where
-    choose : (i < n → get_or (first_values f n) i default_block ≡ f i) → (i < n) ⊎ (n ≤ i) → get_or (first_values f n ++ f n ∷ []) i default_block ≡ f i
-    choose before (inl l) = let c : length (first_values f n) ≡ n = first_count f n in get_or_append_left (first_values f n) (f n ∷ []) default_block i (omega arith) ∙ before l
-    choose before (inr g) = let here : i ≡ n = omega arith in get_or_push (first_values f n) (f n) default_block i (first_count f n ∙ sym here) ∙ ap f (sym here)
-
-some_column : (cols rows i : ℕ) → i < cols * rows → 0 < cols
-some_column zero rows i lt = let none : 0 * rows ≡ 0 = omega arith in absurd (omega arith)
-some_column (suc cols) rows i lt = omega arith
-
 -- a fresh table has the default block everywhere
 pub fresh : (n i : ℕ) → get_or (replicate n default_block) i default_block ≡ default_block
 fresh zero i = refl
@@ -86,18 +70,7 @@ pub all_said : (cols rows : ℕ) (lines : List BlockLine) (items : List Block) �
     → ((x y : ℕ) → x < cols → y < rows → entry_at items cols x y ≡ block_after default_block lines x y) → items ≡ blocks_said cols rows lines
 unfolding blocks_said
 all_said cols rows lines items count f =
-    ext_get_or default_block items (first_values said (cols * rows)) (count ∙ sym (first_count said (cols * rows))) (λ i lt. let within : i < cols * rows = omega arith in at_place i within ∙ sym (first_at said (cols * rows) i within))
-  where
-    said : ℕ → Block
-    said k = block_after default_block lines (k % cols) (k / cols)
-
-    at_place : (i : ℕ) → i < cols * rows → get_or items i default_block ≡ block_after default_block lines (i % cols) (i / cols)
-    at_place i lt =
-        let some : 0 < cols = some_column cols rows i lt in
-        let column : i % cols < cols = mod_below i cols some in
-        let row : i / cols < rows = div_below i cols rows some (omega arith) in
-        let place : i ≡ i / cols * cols + i % cols = sym (div-add-mod' i cols) in
-        ap (λ n. get_or items n default_block) place ∙ f (i % cols) (i / cols) column row
+    by_places default_block (λ x y. block_after default_block lines x y) cols rows items count f
 
 all_lines : (lines : List BlockLine) (i : ℕ) → length lines ≤ i → take i lines ≡ lines
 all_lines [] zero le = refl

@@ -2,10 +2,17 @@ pub mod Pieces
 pub mod Numbers
 pub mod Samples
 pub mod Many
+pub mod Strengths
 pub mod Lengths
 pub mod OneTile
 pub mod Ends
 pub mod RegionRows
+pub mod FirstValues
 pub mod BlockPlaces
 pub mod RecordedRows
 pub mod RecordedEntries
+pub mod Pictures
+pub mod PictureRange
+pub mod PictureRows
+pub mod Begins
+pub mod Reports

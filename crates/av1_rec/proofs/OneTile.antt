@@ -133,20 +133,39 @@ built_parts h e =
     let q = and_parts (is_slow h.format h.target) (h.switches.fast_deblock && (cond h.switches.enable_cdef false (cond h.switches.enable_restoration false (cond h.deblock.deltas_enabled false (cond h.deblock.block_deltas_enabled false true))))) p.1 in
     (p.0, q.0)
 
+off : (b rest : Bool) → cond b false rest ≡ true → (b ≡ false) × (rest ≡ true)
+off true rest e = cc
+off false rest e = (refl, e)
+
+-- which switches are set in what is built
+pub built_switches : (h : Header) → is_built h ≡ true → (h.switches.fast_deblock ≡ true) × (h.switches.enable_cdef ≡ false) × (h.switches.enable_restoration ≡ false)
+unfolding is_built
+built_switches h e =
+    let filters = cond h.deblock.deltas_enabled false (cond h.deblock.block_deltas_enabled false true) in
+    let later = cond h.switches.enable_cdef false (cond h.switches.enable_restoration false filters) in
+    let p = and_parts (is_small h.format) (is_slow h.format h.target && (h.switches.fast_deblock && later)) e in
+    let q = and_parts (is_slow h.format h.target) (h.switches.fast_deblock && later) p.1 in
+    let fast = and_parts h.switches.fast_deblock later q.1 in
+    let cdef = off h.switches.enable_cdef (cond h.switches.enable_restoration false filters) fast.1 in
+    let restoration = off h.switches.enable_restoration filters cdef.1 in
+    (fast.0, cdef.0, restoration.0)
+
 pub built_small : (h : Header) → is_built h ≡ true → is_small h.format ≡ true
 built_small h e = (built_parts h e).0
 
 -- what is built has this tiling
-pub one_tiling : (h : Header) → is_built h ≡ true → 1 ≤ h.format.width → 1 ≤ h.format.height → tiling h ≡ Ok (one_tile h.format)
-unfolding tiling
-one_tiling h e w0 h0 =
+pub one_found : (h : Header) → is_built h ≡ true → 1 ≤ h.format.width → 1 ≤ h.format.height
+    → grid 6 h.format.width h.format.height h.target.num h.target.den h.target.cols_log2 h.target.rows_log2 (is_422 h.format.sampling) ≡ Some (one_tile h.format)
+one_found h e w0 h0 =
     let parts = built_parts h e in
     let s = small_is h.format parts.0 in
     let rate = slow h.format h.target parts.1 in
-    let found : grid 6 h.format.width h.format.height h.target.num h.target.den h.target.cols_log2 h.target.rows_log2 (is_422 h.format.sampling) ≡ Some (one_tile h.format) =
     ap (λ (c : ChromaSampling). grid 6 h.format.width h.format.height h.target.num h.target.den h.target.cols_log2 h.target.rows_log2 (is_422 c)) s.sampling
-    ∙ one_grid h.format.width h.format.height h.target.num h.target.den h.target.cols_log2 h.target.rows_log2 w0 s.width h0 s.height rate.0 rate.1 in
-    rw (tiling, found) refl
+    ∙ one_grid h.format.width h.format.height h.target.num h.target.den h.target.cols_log2 h.target.rows_log2 w0 s.width h0 s.height rate.0 rate.1
+
+pub one_tiling : (h : Header) → is_built h ≡ true → 1 ≤ h.format.width → 1 ≤ h.format.height → tiling h ≡ Ok (one_tile h.format)
+unfolding tiling
+one_tiling h e w0 h0 = let found = one_found h e w0 h0 in rw (tiling, found) refl
 
 short : (n m : ℕ) → n ≤ m → min m (n - 0) ≡ n
 short n m h = omega arith

@@ -1,8 +1,10 @@
 -- The rows of a region and the planes of a report, one after another.
-use Rattle.std.proofs.Common.{◌≡◌, ℕ, zero, suc, ◌+◌, ◌*◌, ◌<◌, ◌≤◌, ℤ, List, [], ◌∷◌, ◌++◌, map, take, drop, length, get_or, Bool, refl, sym, ap, ◌∙◌, append_assoc, arith}
+use Rattle.std.proofs.Common.{◌≡◌, ℕ, zero, suc, ◌+◌, ◌*◌, ◌<◌, ◌≤◌, ℤ, pos, List, [], ◌∷◌, ◌++◌, map, take, drop, length, get_or, Bool, refl, sym, ap, ◌∙◌, append_assoc, arith}
 use Rattle.std.specs.List.{flat_map}
 use Rattle.std.proofs.lemmas.List.{append-nil, drop-drop, flat_map_more, take_more, map_push}
+use Rattle.av1_plane.specs.declared.plane.PlaneConfig.{PlaneConfig}
 use Rattle.av1_plane.specs.Layout.{rows}
+use Rattle.av1_plane.specs.Place.{stored_at, rect_start, origin_place}
 use Rattle.av1_rec.specs.Report.{row_line, plane_text, planes_text}
 
 -- one row more
@@ -18,7 +20,7 @@ map_take f zero l = refl
 map_take f (suc n) [] = refl
 map_take f (suc n) (x ∷ l) = ap (λ (m : List _). f x ∷ m) (map_take f n l)
 
-map_drop : {X Y : Type 0} (f : X → Y) (n : ℕ) (l : List X) → map f (drop n l) ≡ drop n (map f l)
+pub map_drop : {X Y : Type 0} (f : X → Y) (n : ℕ) (l : List X) → map f (drop n l) ≡ drop n (map f l)
 map_drop f zero l = refl
 map_drop f (suc n) [] = refl
 map_drop f (suc n) (x ∷ l) = map_drop f n l
@@ -75,3 +77,10 @@ unfolding planes_text
 planes_start wide bs = sym (append-nil bs)
 
 pub ruleset planes_steps = (planes_more, planes_start)
+
+-- a rectangle that begins at a plane's origin begins with its first sample
+from_here : (origin : ℕ) → stored_at origin (pos 0) ≡ origin
+from_here origin = omega arith
+
+pub at_origin : (cfg : PlaneConfig) (width height : ℕ) → rect_start cfg (record { x = pos 0; y = pos 0; width = width; height = height }) ≡ origin_place cfg
+at_origin cfg width height = λ i. from_here cfg.yorigin i * cfg.stride + from_here cfg.xorigin i

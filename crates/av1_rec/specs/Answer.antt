@@ -4,14 +4,10 @@ use Rattle.av1_rec.specs.declared.fault.Fault.TheVariants as faults
 use Rattle.av1_rec.specs.declared.status.Status.{Status}
 use Rattle.av1_rec.specs.declared.status.Status.TheVariants as status
 use Rattle.av1_rec.specs.Commands.{is_command, is_group_one}
-use Rattle.av1_rec.specs.Group.{Answer, group_answer}
+use Rattle.av1_rec.specs.Group.{Answer, refused, group_answer}
 use Rattle.av1_rec.specs.Statuses.{refusal_line}
 use Rattle.av1_rec.specs.Text.{text_of, line_number}
 use Rattle.av1_rec.specs.Told.{Appended, Prefixed}
-
--- a refusal and its line
-abbrev pub refused : Status → Answer
-refused s = (s, refusal_line s)
 
 -- of a text that isn't too long
 unfoldable pub text_answer : List ℕ → Answer

@@ -1,12 +1,13 @@
 -- The first eight lines of a text: a frame's format, its rate and the tiles asked for, its type, quantisers,
 -- switches, loop filter deltas and CDEF strengths (AV1 specification, sections 5.9.11 and 5.9.19).
-use Rattle.std.specs.Prelude.{ℕ, ℤ, List, [], ◌∷◌, Bool, true, false, ◌==◌, ◌||◌, ◌&&◌, if◌then◌else◌, Option, Some, None, codes}
+use Rattle.std.specs.Prelude.{ℕ, ◌≤◌, All, ℤ, List, [], ◌∷◌, Bool, true, false, ◌==◌, ◌||◌, ◌&&◌, if◌then◌else◌, Option, Some, None, codes}
 use Rattle.av1_plane.specs.declared.sampling.ChromaSampling.{ChromaSampling}
 use Rattle.av1_plane.specs.declared.sampling.ChromaSampling.TheVariants.{Cs420, Cs422, Cs444, Cs400}
 use Rattle.av1_tiling.specs.declared.deblock_state.DeblockState.{DeblockState}
 use Rattle.av1_tiling.specs.declared.frame_invariants.FrameType.{FrameType}
 use Rattle.av1_tiling.specs.declared.frame_invariants.FrameType.TheVariants.{KEY, INTER}
 use Rattle.av1_rec.specs.declared.header.FrameFormat.{FrameFormat}
+use Rattle.av1_rec.specs.declared.header.Header.{Header}
 use Rattle.av1_rec.specs.declared.header.TilingTarget.{TilingTarget}
 use Rattle.av1_rec.specs.declared.header.Quantizers.{Quantizers}
 use Rattle.av1_rec.specs.declared.header.Switches.{Switches}
@@ -130,3 +131,12 @@ cdef_line text = do
   uv ← eight_strengths y.1
   rest ← tag (codes "\n") uv.1
   Some (record { damping = damping.0; y_strengths = y.0; uv_strengths = uv.0 }, rest)
+
+-- the numbers of a right header are within their bounds
+pub record IsHeader (h : Header) : Type 0 where
+  pub width : (1 ≤ h.format.width) × (h.format.width ≤ 65536)
+  pub height : (1 ≤ h.format.height) × (h.format.height ≤ 65536)
+  pub shift : h.deblock.block_delta_shift ≤ 3
+  pub damping : (3 ≤ h.cdef.damping) × (h.cdef.damping ≤ 6)
+  pub y_strengths : All (λ s. s ≤ 63) h.cdef.y_strengths
+  pub uv_strengths : All (λ s. s ≤ 63) h.cdef.uv_strengths

@@ -16,3 +16,5 @@ pub mod Answer
 pub mod Report
 pub mod BlockTable
 pub mod Recorded
+pub mod Picture
+pub mod Begin

@@ -12,7 +12,18 @@ use Rattle.av1_tiling.specs.TileRects.{tile_superblock}
 use Rattle.av1_tiling.specs.Views.{View, TileState, plane_at, with_samples, with_blocks}
 use Rattle.av1_rec.specs.Lines.{said_planes}
 use Rattle.av1_rec.specs.declared.recorded_tile.RecordedTile.{RecordedTile}
-use Rattle.av1_rec.specs.declared.recorded_tile.RecordedTile.TheVariants.{Refused, Coded}
+use Rattle.av1_rec.specs.declared.recorded_tile.RecordedTile.TheVariants as kept
+
+-- a recorded result: the coder refused the tile, or gave its bytes, the rows of its samples inside each plane, and its
+-- blocks
+pub data Recorded : Type 0 where
+  Refused : Recorded
+  Coded : List ℕ → Three (List (List ℤ)) → List Block → Recorded
+
+-- what is kept of a result, as numbers
+abbrev pub recorded : {X : Type 0} → (X → ℤ) → RecordedTile X → Recorded
+recorded number kept.Refused = Refused
+recorded number (kept.Coded bytes rows blocks) = Coded bytes.items (said_planes number rows) blocks.items
 
 -- tile n is in the grid, and its first superblock is this one
 abbrev pub begins_at : TilingInfo → ℕ × ℕ → ℕ → Bool
@@ -61,16 +72,13 @@ with_planes t rows = with_rows (with_rows (with_rows t 0 rows.y) 1 rows.u) 2 row
 abbrev pub with_recorded : View → Three (List (List ℤ)) → List Block → View
 with_recorded v rows blocks = with_blocks (record v { ts = with_planes v.ts rows }) blocks
 
-module _ {T : Type 0} (number : T → ℤ) where
-  -- what a recorded result makes of a view
-  abbrev pub entry_meaning : Option (RecordedTile T) → View → Option (List ℕ × View)
-  entry_meaning None v = None
-  entry_meaning (Some Refused) v = None
-  entry_meaning (Some (Coded bytes rows blocks)) v =
-      if planes_fit v.ts (said_planes number rows) && length blocks.items == length v.blocks.entries
-      then Some (bytes.items, with_recorded v (said_planes number rows) blocks.items)
-      else None
+-- what a recorded result makes of a view
+abbrev pub entry_meaning : Option Recorded → View → Option (List ℕ × View)
+entry_meaning None v = None
+entry_meaning (Some Refused) v = None
+entry_meaning (Some (Coded bytes rows blocks)) v =
+    if planes_fit v.ts rows && length blocks == length v.blocks.entries then Some (bytes, with_recorded v rows blocks) else None
 
-  -- what the results recorded for the tiles of a grid make of it
-  abbrev pub recorded_meaning : TilingInfo → List (RecordedTile T) → View → Option (List ℕ × View)
-  recorded_meaning tiling tiles v = entry_meaning (entry_at tiling v.ts.superblock 0 tiles) v
+-- what the results recorded for the tiles of a grid make of it
+abbrev pub recorded_meaning : TilingInfo → List Recorded → View → Option (List ℕ × View)
+recorded_meaning tiling results v = entry_meaning (entry_at tiling v.ts.superblock 0 results) v

@@ -1,4 +1,4 @@
-ghost use Rattle.std.specs.Prelude.{◌≡◌, ◌≤◌, option_map, IfSome};
+ghost use Rattle.std.specs.Prelude.{◌≡◌, ◌≤◌, All, option_map, IfSome};
 ghost use Rattle.av1_rec.specs.Fields.{field};
 ghost use Rattle.av1_rec.specs.Header.{sampling_of, sampling, depth, frame_line, tiling_line, type_line, quant_line, may_be_large, switches_line, eight_deltas, deltas_line, eight_strengths, cdef_line};
 
@@ -162,7 +162,8 @@ fn eight_deltas(text: &[u8]) -> Option<([i8; 8], &[u8])>
 /// The line `deltas E R0 to R7 M0 M1 B SHIFT MULTI`.
 #[tactic(auto, unfolding(crate::specs::Header::deltas_line))]
 pub fn deltas_line(text: &[u8]) -> Option<(DeblockState, &[u8])>
-    ensures { option_map (λ x. (x.0, x.1.now)) result ≡ deltas_line text.now }
+    ensures value { option_map (λ x. (x.0, x.1.now)) result ≡ deltas_line text.now }
+    ensures shift { IfSome result (λ x. x.0.block_delta_shift ≤ 3) }
 {
     let rest = tag(text, b"deltas")?;
     let (enabled, rest) = flag(rest)?;
@@ -187,7 +188,8 @@ pub fn deltas_line(text: &[u8]) -> Option<(DeblockState, &[u8])>
 
 // A space, and a strength.
 fn strength(text: &[u8]) -> Option<(u8, &[u8])>
-    ensures { option_map (λ x. (x.0, x.1.now)) result ≡ field 0 63 text.now }
+    ensures value { option_map (λ x. (x.0, x.1.now)) result ≡ field 0 63 text.now }
+    ensures within { IfSome result (λ x. x.0 ≤ 63) }
 {
     let (n, rest) = field(0, 63, text)?;
     Some((n as u8, rest))
@@ -195,7 +197,8 @@ fn strength(text: &[u8]) -> Option<(u8, &[u8])>
 
 #[tactic(auto, unfolding(crate::specs::Header::eight_strengths))]
 fn eight_strengths(text: &[u8]) -> Option<([u8; 8], &[u8])>
-    ensures { option_map (λ x. (x.0, x.1.now)) result ≡ eight_strengths text.now }
+    ensures value { option_map (λ x. (x.0, x.1.now)) result ≡ eight_strengths text.now }
+    ensures within { IfSome result (λ x. All (λ s. s ≤ 63) x.0) }
 {
     let (a, rest) = strength(text)?;
     let (b, rest) = strength(rest)?;
@@ -211,7 +214,10 @@ fn eight_strengths(text: &[u8]) -> Option<([u8; 8], &[u8])>
 /// The line `cdef DAMPING Y0 to Y7 U0 to U7`.
 #[tactic(auto, unfolding(crate::specs::Header::cdef_line))]
 pub fn cdef_line(text: &[u8]) -> Option<(CdefStrengths, &[u8])>
-    ensures { option_map (λ x. (x.0, x.1.now)) result ≡ cdef_line text.now }
+    ensures value { option_map (λ x. (x.0, x.1.now)) result ≡ cdef_line text.now }
+    ensures damping { IfSome result (λ x. (3 ≤ x.0.damping) × (x.0.damping ≤ 6)) }
+    ensures y_strengths { IfSome result (λ x. All (λ s. s ≤ 63) x.0.y_strengths) }
+    ensures uv_strengths { IfSome result (λ x. All (λ s. s ≤ 63) x.0.uv_strengths) }
 {
     let rest = tag(text, b"cdef")?;
     let (damping, rest) = field(3, 6, rest)?;

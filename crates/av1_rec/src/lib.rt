@@ -5,6 +5,7 @@
 //! gives a value and the rest, and each function here equals one of them.
 #![tactic(auto)]
 
+mod begin;
 mod block_line;
 mod block_table;
 mod commands;
@@ -17,6 +18,7 @@ mod header_lines;
 mod hex;
 mod memory_sink;
 mod memory_source;
+mod picture;
 mod program;
 mod recorded_coder;
 mod recorded_rows;

@@ -1,5 +1,4 @@
 ghost use Rattle.std.specs.Prelude.{◌≡◌, ◌<◌, ◌≤◌, ◌^◌, ◌⊎◌, [], map, length, false, IfSome, IfOk, Some, string_bytes};
-ghost use Rattle.av1_rec.specs.Statuses.{refusal_line};
 ghost use Rattle.av1_rec.specs.Answer.{asked, text_answer, IsOfText, Made, Finished, Answered};
 ghost use Rattle.av1_rec.specs.Commands.{is_group_one};
 ghost use Rattle.av1_rec.specs.Told.{Rose, Appended, Prefixed};
@@ -7,7 +6,7 @@ ghost use Rattle.av1_rec.specs.Told.{Rose, Appended, Prefixed};
 use crate::commands::{is_command, is_group_one};
 use crate::fault::{Fault, TextError};
 use crate::group::group;
-use crate::refusals::{line_number, refusal_line};
+use crate::refusals::{line_number, refused};
 use crate::sink::{Sink, SinkError};
 use crate::source::Source;
 use crate::status::Status;
@@ -16,13 +15,6 @@ use crate::transfer::{ReadError, read_text, write_all};
 use av1_frame::Gate;
 use std::alloc::{AllocError, Global};
 use std::thread::Threads;
-
-// A refusal and its line.
-fn refused(alloc: Global, status: Status) -> Result<(Status, Vec<u8>), AllocError>
-    ensures { IfOk result (λ x. (x.0 ≡ status) × (x.1.items ≡ refusal_line status)) }
-{
-    Ok((status, refusal_line(alloc, status)?))
-}
 
 // What a text asks for: a status, and what is printed.
 #[tactic(auto, unfolding(crate::specs::Answer::text_answer))]

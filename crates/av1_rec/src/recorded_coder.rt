@@ -1,5 +1,5 @@
-ghost use Rattle.std.specs.Prelude.{◌≡◌, ◌<◌, ◌*◌, ◌==◌, true, nat_lt, length, option_map};
-ghost use Rattle.av1_rec.specs.Recorded.{begins_at, entry_at, recorded_meaning};
+ghost use Rattle.std.specs.Prelude.{◌≡◌, ◌<◌, ◌*◌, ◌==◌, true, nat_lt, map, length, option_map};
+ghost use Rattle.av1_rec.specs.Recorded.{begins_at, entry_at, recorded, recorded_meaning};
 
 use crate::recorded_rows::{planes_fit, write_planes};
 use crate::recorded_tile::RecordedTile;
@@ -50,13 +50,14 @@ fn begins_at(tiling: &TilingInfo, x: usize, y: usize, n: usize) -> bool
 
 // The first entry whose tile begins there.
 #[tactic(auto, using(crate::proofs::RecordedEntries::entries))]
-fn entry_at<'a, T>(
+fn entry_at<'a, T: Pixel>(
     tiling: &TilingInfo,
     x: usize,
     y: usize,
     tiles: &'a [RecordedTile<T>],
 ) -> Option<&'a RecordedTile<T>>
-    ensures { option_map (λ tile. tile.now) result ≡ entry_at tiling.now (x, y) 0 tiles.now }
+    ensures { option_map (λ tile. recorded T.number tile.now) result
+        ≡ entry_at tiling.now (x, y) 0 (map (recorded T.number) tiles.now) }
 {
     let mut rest = tiles;
     let mut n = 0;
@@ -71,7 +72,7 @@ fn entry_at<'a, T>(
 }
 
 impl<T: Pixel + Send + Sync> TileCoder<T> for RecordedCoder<T> {
-    ghost meaning = { λ c v. recorded_meaning T.number c.tiling c.tiles.items v };
+    ghost meaning = { λ c v. recorded_meaning c.tiling (map (recorded T.number) c.tiles.items) v };
 
     /// Refuses a view where no tile begins, where nothing is recorded for it, and where what is recorded
     /// has other sides.

@@ -76,7 +76,7 @@ pub(crate) fn planes_fit<T: Pixel>(ts: &TileStateMut<T>, rows: &Three<Vec<Vec<T>
 }
 
 // Writes the run over as many entries from place `from` on.
-fn write_run<T: Copy>(table: &mut [T], from: usize, run: &[T])
+pub(crate) fn write_run<T: Copy>(table: &mut [T], from: usize, run: &[T])
     requires { from + length run.now ≤ length table.old }
     ensures { table.new ≡ overwritten table.old from run.now }
 {

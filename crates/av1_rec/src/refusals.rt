@@ -72,6 +72,14 @@ pub fn refusal_line(alloc: Global, status: Status) -> Result<Vec<u8>, AllocError
     }
 }
 
+/// A refusal and its line.
+pub fn refused(alloc: Global, status: Status) -> Result<(Status, Vec<u8>), AllocError>
+    ensures status { IfOk result (λ x. x.0 ≡ status) }
+    ensures line { IfOk result (λ x. x.1.items ≡ refusal_line status) }
+{
+    Ok((status, refusal_line(alloc, status)?))
+}
+
 fn line_feeds(text: &[u8]) -> usize
     ensures value { result ≡ count_by (λ c. c == 10) text.now }
     ensures within { result ≤ length text.now }

@@ -63,11 +63,52 @@ fn ran<R: Threads + Sync>(
     Ok((status, Vec::from_slice(alloc, sink.bytes())?))
 }
 
+const REPORT: &[u8] =
+    b"levels 5 5 5 5\nsize_bytes 1\ncontext_tile 0\ngroup 07\nplane 0\n64646464646565666767686868686868\n64646464646565666767686868686868\n64646464646565666767686868686868\n64646464646565666767686868686868\n64646464646565666767686868686868\n64646464646565666767686868686868\n64646464646565666767686868686868\n64646464646565666767686868686868\nend\n";
+
 #[test]
-fn reads_a_right_text(rt: HostRuntime) -> Result<(), Fail> {
+fn reports_a_right_text(rt: HostRuntime) -> Result<(), Fail> {
     let (status, printed) = ran(&rt, rt.alloc(), "group 1", right_text(rt.alloc())?)?;
-    assert_eq!(rt; status, Status::NotBuilt);
-    assert_eq!(rt; printed.as_slice(), b"refused not built\n".as_slice());
+    assert_eq!(rt; status, Status::Done);
+    assert_eq!(rt; printed.as_slice(), REPORT);
+    Ok(())
+}
+
+#[test]
+fn refuses_results(rt: HostRuntime) -> Result<(), Fail> {
+    let alloc = rt.alloc();
+    let rows = joined(alloc, &[HEADER, b"source\n", ROWS])?;
+    for (first, samples, rest, error, line) in [
+        (
+            b"tile 0 refused\n".as_slice(),
+            b"".as_slice(),
+            b"".as_slice(),
+            GroupError::Coder { tile: 0 },
+            b"refused coder tile 0\n".as_slice(),
+        ),
+        (
+            b"tile 0 -\n",
+            ROWS,
+            b"blocks 0\nunits 0\n",
+            GroupError::EmptyTile { tile: 0 },
+            b"refused empty tile 0\n",
+        ),
+        (
+            b"tile 0 07\n",
+            ROWS,
+            b"blocks 0\nunits 0\n",
+            GroupError::BadBlock { tile: 0 },
+            b"refused block tile 0\n",
+        ),
+    ] {
+        let text = joined(
+            alloc,
+            &[rows.as_slice(), first, samples, rest, b"end\n"],
+        )?;
+        let (status, printed) = ran(&rt, alloc, "group 1", text)?;
+        assert_eq!(rt; status, Status::Group(error));
+        assert_eq!(rt; printed.as_slice(), line);
+    }
     Ok(())
 }
 
@@ -153,12 +194,11 @@ fn tells_a_failing_write(rt: HostRuntime) -> Result<(), Fail> {
     let words = split(alloc, "group 1")?;
     let mut failing = Vec::new(alloc);
     failing.push(2u64)?;
-    let text = joined(alloc, &[HEADER, b"source\n64646464"])?;
-    let mut source = MemorySource::new(text, 100, Vec::new(alloc));
+    let mut source = MemorySource::new(right_text(alloc)?, 100, Vec::new(alloc));
     let mut sink = MemorySink::new(alloc, 10, failing);
     let status = run(&rt, alloc, &words, &mut source, &mut sink, &OpenGate);
     assert_eq!(rt; status, Status::WriteFault);
-    assert_eq!(rt; sink.bytes(), b"refused syntax line ".as_slice());
+    assert_eq!(rt; sink.bytes(), b"levels 5 5 5 5\nsize_".as_slice());
     Ok(())
 }
 

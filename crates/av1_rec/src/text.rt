@@ -1,7 +1,9 @@
-ghost use Rattle.std.specs.Prelude.{◌≡◌, ◌≤◌, pos, map, true, IfOk};
+ghost use Rattle.std.specs.Prelude.{◌≡◌, ◌≤◌, ◌^◌, All, pos, map, length, true, IfOk};
 ghost use Rattle.av1_plane.specs.Layout.{rounded};
 ghost use Rattle.av1_rec.specs.Built.{is_small, is_slow, is_built, one_tile};
+ghost use Rattle.av1_rec.specs.Header.{IsHeader};
 ghost use Rattle.av1_rec.specs.Lines.{Gives, said_planes};
+ghost use Rattle.av1_rec.specs.Picture.{HasPicture, IsPictureBelow};
 ghost use Rattle.av1_rec.specs.Tile.{said_tile};
 ghost use Rattle.av1_rec.specs.Text.{header, source, tile_shape, tiles, end, body, text_of, said};
 
@@ -31,6 +33,10 @@ fn header(text: &[u8]) -> Result<(Header, &[u8]), TextError>
     ensures value { Gives (λ x. (x.0, x.1.now)) result (header text.now) }
     ensures width { IfOk result (λ x. (1 ≤ x.0.format.width) × (x.0.format.width ≤ 65536)) }
     ensures height { IfOk result (λ x. (1 ≤ x.0.format.height) × (x.0.format.height ≤ 65536)) }
+    ensures shift { IfOk result (λ x. x.0.deblock.block_delta_shift ≤ 3) }
+    ensures damping { IfOk result (λ x. (3 ≤ x.0.cdef.damping) × (x.0.cdef.damping ≤ 6)) }
+    ensures y_strengths { IfOk result (λ x. All (λ s. s ≤ 63) x.0.cdef.y_strengths) }
+    ensures uv_strengths { IfOk result (λ x. All (λ s. s ≤ 63) x.0.cdef.uv_strengths) }
 {
     let rest = tag(text, b"av1rec 1\n").ok_or(wrong(text))?;
     let (format, rest) = frame_line(rest).ok_or(wrong(rest))?;
@@ -153,8 +159,9 @@ fn tiles<'a>(
     requires small { is_small header.now.format ≡ true }
     requires width { (1 ≤ header.now.format.width) × (header.now.format.width ≤ 65536) }
     requires height { (1 ≤ header.now.format.height) × (header.now.format.height ≤ 65536) }
-    ensures { Gives (λ x. (map (said_tile pos) x.0.items, x.1.now)) result
+    ensures value { Gives (λ x. (map (said_tile pos) x.0.items, x.1.now)) result
         (tiles header.now (one_tile header.now.format) text.now) }
+    ensures one { IfOk result (λ x. length x.0.items ≡ 1) }
 {
     let shape = one_shape(&header.format);
     let (one, rest) = tile(alloc, false, &shape, 0, text)?;
@@ -182,7 +189,8 @@ fn body(alloc: Global, header: Header, text: &[u8]) -> Result<Text<u8>, TextErro
     requires small { is_small header.format ≡ true }
     requires width { (1 ≤ header.format.width) × (header.format.width ≤ 65536) }
     requires height { (1 ≤ header.format.height) × (header.format.height ≤ 65536) }
-    ensures { Gives (said pos) result (body header (one_tile header.format) text.now) }
+    ensures value { Gives (said pos) result (body header (one_tile header.format) text.now) }
+    ensures one { IfOk result (λ t. length t.tiles.items ≡ 1) }
 {
     let (source, rest) = source(alloc, &header.format, text)?;
     let (tiles, rest) = tiles(alloc, &header, rest)?;
@@ -197,7 +205,12 @@ fn body(alloc: Global, header: Header, text: &[u8]) -> Result<Text<u8>, TextErro
 /// What the text says, or what is wrong with it.
 #[tactic(auto, unfolding(crate::specs::Text::text_of), using(crate::proofs::OneTile::one_steps))]
 pub fn text_of(alloc: Global, text: &[u8]) -> Result<Text<u8>, TextError>
-    ensures { Gives (said pos) result (text_of text.now) }
+    ensures value { Gives (said pos) result (text_of text.now) }
+    ensures header { IfOk result (λ t. IsHeader t.header) }
+    ensures built { IfOk result (λ t. is_built t.header ≡ true) }
+    ensures one { IfOk result (λ t. length t.tiles.items ≡ 1) }
+    ensures sides { IfOk result (λ t. HasPicture t.header.format (said_planes pos t.source)) }
+    ensures depth { IfOk result (λ t. IsPictureBelow (2 ^ t.header.format.depth) (said_planes pos t.source)) }
 {
     let (header, rest) = header(text)?;
     if is_built(&header) {

@@ -1,0 +1,147 @@
+-- What a text that is read to its end says of the picture: its rows have the frame's sides, and their samples the
+-- frame's depth.
+use Rattle.std.proofs.Common.{◌≡◌, ◌==◌, ℕ, ℤ, zero, suc, pos, ◌<◌, ◌^◌, List, [], ◌∷◌, length, get_or, Bool, true, false, cond, All, Option, Some, None, Result, Ok, Err, refl, sym, ap, subst, arith}
+use Rattle.std.specs.Prelude.{codes, nat_lt, IfOk}
+use Rattle.std.specs.List.{list_all}
+use Rattle.std.proofs.lemmas.Option.{option_and_then_some, same_Some}
+use Rattle.std.proofs.lemmas.List.Sums.{list_all-from_AllPass}
+use Rattle.std.proofs.lemmas.Bool.{ltb-true, eq-eqb}
+use Rattle.av1_plane.specs.declared.three.Three.{Three}
+use Rattle.av1_plane.specs.Numbers.{InDepth}
+use Rattle.av1_plane.specs.Sampling.{decimation}
+use Rattle.av1_tiling.specs.declared.tiling_info.TilingInfo.{TilingInfo}
+use Rattle.av1_rec.specs.declared.extent.Extent.{Extent}
+use Rattle.av1_rec.specs.declared.fault.Fault.{Fault}
+use Rattle.av1_rec.specs.declared.fault.TextError.{TextError}
+use Rattle.av1_rec.specs.declared.header.FrameFormat.{FrameFormat}
+use Rattle.av1_rec.specs.declared.header.Header.{Header}
+use Rattle.av1_rec.specs.declared.text.Text.{Text}
+use Rattle.av1_rec.specs.Fields.{tag, below, sample, option_bind}
+use Rattle.av1_rec.specs.Lines.{◌>>=◌, line, line_or, row, many, rows, planes, said_planes, Gives}
+use Rattle.av1_rec.specs.Text.{Said, source, tiles, end, body, said, picture, chroma_picture, is_wide}
+use Rattle.av1_rec.specs.Picture.{AreRowsOf, HasPicture, AreBelow, IsPictureBelow}
+
+-- what a step of reading gave, where all was read
+bind_ok : {A B P : Type 0} (r : Result A Fault) (f : A → Result B Fault) (y : B) → (r >>= f) ≡ Ok y → ((x : A) → r ≡ Ok x → f x ≡ Ok y → P) → P
+bind_ok (Ok x) f y e k = k x refl e
+bind_ok (Err fault) f y e k = absurd cc
+
+same_ok : {A : Type 0} (x y : A) → ◌≡◌ {A = Result A Fault} (Ok x) (Ok y) → x ≡ y
+same_ok x y e = cc
+
+line_some : {A : Type 0} (left : ℕ) (o : Option A) (x : A) → line_or left o ≡ Ok x → o ≡ Some x
+line_some left None x e = absurd cc
+line_some left (Some a) x e = ap (λ b. Some b) (same_ok a x e)
+
+none_of : {A : Type 0} (P : A → Type 0) → All P []
+none_of P k d l = absurd (omega (arith, l))
+
+one_more : {A : Type 0} (P : A → Type 0) (x : A) (xs : List A) → P x → All P xs → All P (x ∷ xs)
+one_more P x xs p all zero d l = p
+one_more P x xs p all (suc k) d l = all k d (omega (arith, l))
+
+-- a sample is below its limit
+if_some : (b : Bool) (v w : ℕ × List ℕ) → cond b (Some v) None ≡ Some w → (b ≡ true) × (v ≡ w)
+if_some true v w e = (refl, same_Some v w e)
+if_some false v w e = absurd cc
+
+below_right : (wide : Bool) (limit : ℕ) (text : List ℕ) (v : ℕ × List ℕ) → below wide limit text ≡ Some v → v.0 < limit
+unfolding below
+below_right wide limit text v e =
+    option_and_then_some (λ (w : ℕ × List ℕ). cond (nat_lt w.0 limit) (Some w) None) (sample wide text) v e (λ w read test.
+    let p = if_some (nat_lt w.0 limit) w v test in
+    subst (λ (u : ℕ × List ℕ). u.0 < limit) p.1 (ltb-true w.0 limit p.0))
+
+-- so many samples, all below the limit
+record IsRow (limit count : ℕ) (vs : List ℤ) : Type 0 where
+  long : length vs ≡ count
+  below : All (InDepth limit) vs
+
+row_right : (wide : Bool) (limit count : ℕ) (text : List ℕ) (x : List ℤ × List ℕ) → row wide limit count text ≡ Some x → IsRow limit count x.0
+unfolding row
+row_right wide limit zero text x e =
+    option_and_then_some (λ (rest : List ℕ). Some ([], rest)) (tag (codes "\n") text) x e (λ rest read made.
+    subst (λ (y : List ℤ × List ℕ). IsRow limit 0 y.0) (same_Some ([], rest) x made) (record { long = refl; below = none_of (InDepth limit) }))
+row_right wide limit (suc count) text x e =
+    option_and_then_some (λ (v : ℕ × List ℕ). option_bind (row wide limit count v.1) (λ vs. Some (pos v.0 ∷ vs.0, vs.1))) (below wide limit text) x e (λ v first others.
+    option_and_then_some (λ (vs : List ℤ × List ℕ). Some (pos v.0 ∷ vs.0, vs.1)) (row wide limit count v.1) x others (λ vs read made.
+    let so_far = row_right wide limit count v.1 vs read in
+    let small : v.0 < limit = below_right wide limit text v first in
+    subst (λ (y : List ℤ × List ℕ). IsRow limit (suc count) y.0) (same_Some (pos v.0 ∷ vs.0, vs.1) x made) (record {
+      long = let long = so_far.long in omega (arith, long);
+      below = one_more (InDepth limit) (pos v.0) vs.0 (grind arith, grind arith) so_far.below;
+    })))
+
+-- so many of what is read, each of which is right
+module _ {A : Type 0} (P : A → Type 0) (read : List ℕ → Result (A × List ℕ) Fault) (right : (text : List ℕ) (x : A × List ℕ) → read text ≡ Ok x → P x.0) where
+  many_right : (count : ℕ) (text : List ℕ) (x : List A × List ℕ) → many read count text ≡ Ok x → (length x.0 ≡ count) × All P x.0
+  unfolding many
+  many_right zero text x e =
+      subst (λ (y : List A × List ℕ). (length y.0 ≡ 0) × All P y.0) (same_ok ([], text) x e) (refl, none_of P)
+  many_right (suc count) text x e =
+      bind_ok (read text) (λ (first : A × List ℕ). many read count first.1 >>= λ others. Ok (first.0 ∷ others.0, others.1)) x e (λ first one others.
+      bind_ok (many read count first.1) (λ (others : List A × List ℕ). Ok (first.0 ∷ others.0, others.1)) x others (λ rest all made.
+      let so_far = many_right count first.1 rest all in
+      let long : length rest.0 ≡ count = so_far.0 in
+      subst (λ (y : List A × List ℕ). (length y.0 ≡ suc count) × All P y.0) (same_ok (first.0 ∷ rest.0, rest.1) x made)
+      (omega (arith, long), one_more P first.0 rest.0 (right text first one) so_far.1)))
+
+-- rows of these sides, all samples below the limit
+record AreRows (limit : ℕ) (extent : Extent) (rs : List (List ℤ)) : Type 0 where
+  sides : AreRowsOf extent rs
+  below : AreBelow limit rs
+
+rows_right : (wide : Bool) (limit : ℕ) (sides : Extent) (text : List ℕ) (x : List (List ℤ) × List ℕ) → rows wide limit sides.width sides.height text ≡ Ok x → AreRows limit sides x.0
+rows_right wide limit sides text x e =
+    let right = many_right (IsRow limit sides.width) (line (row wide limit sides.width)) (λ t v read. row_right wide limit sides.width t v (line_some (length t) (row wide limit sides.width t) v read)) sides.height text x e in
+    let long : list_all (λ row. length row == sides.width) x.0 ≡ true = list_all-from_AllPass (λ row. length row == sides.width) x.0 (λ k d l. eq-eqb (length (get_or x.0 k d)) sides.width (right.1 k d l).long) in
+    record { sides = rw (right.0, eq-eqb sides.height sides.height refl) long; below = λ k d l. (right.1 k d l).below }
+
+record ArePlanes (limit : ℕ) (luma chroma : Extent) (s : Three (List (List ℤ))) : Type 0 where
+  y : AreRows limit luma s.y
+  u : AreRows limit chroma s.u
+  v : AreRows limit chroma s.v
+
+planes_right : (wide : Bool) (limit : ℕ) (luma chroma : Extent) (text : List ℕ) (x : Three (List (List ℤ)) × List ℕ) → planes wide limit luma chroma text ≡ Ok x → ArePlanes limit luma chroma x.0
+unfolding planes
+planes_right wide limit luma chroma text x e =
+    bind_ok (rows wide limit luma.width luma.height text) _ x e (λ y read_y after_y.
+    bind_ok (rows wide limit chroma.width chroma.height y.1) _ x after_y (λ u read_u after_u.
+    bind_ok (rows wide limit chroma.width chroma.height u.1) _ x after_u (λ v read_v made.
+    subst (λ (z : Three (List (List ℤ)) × List ℕ). ArePlanes limit luma chroma z.0) (same_ok (record { y = y.0; u = u.0; v = v.0 }, v.1) x made) (record {
+      y = rows_right wide limit luma text y read_y;
+      u = rows_right wide limit chroma y.1 u read_u;
+      v = rows_right wide limit chroma u.1 v read_v;
+    }))))
+
+-- the source that was read
+source_right : (f : FrameFormat) (text : List ℕ) (x : Three (List (List ℤ)) × List ℕ) → source f text ≡ Ok x → HasPicture f x.0 × IsPictureBelow (2 ^ f.depth) x.0
+unfolding source
+source_right f text x e =
+    bind_ok (line (tag (codes "source\n")) text) (λ (rest : List ℕ). planes (is_wide f) (2 ^ f.depth) (picture f) (chroma_picture f (decimation f.sampling)) rest) x e (λ rest word read.
+    let p = planes_right (is_wide f) (2 ^ f.depth) (picture f) (chroma_picture f (decimation f.sampling)) rest x read in
+    (record { y = p.y.sides; u = p.u.sides; v = p.v.sides }, record { y = p.y.below; u = p.u.below; v = p.v.below }))
+
+-- what follows a header, read to its end
+body_right : (h : Header) (t : TilingInfo) (text : List ℕ) (s : Said) → body h t text ≡ Ok s → (s.header ≡ h) × HasPicture s.header.format s.source × IsPictureBelow (2 ^ s.header.format.depth) s.source
+unfolding body
+body_right h t text s e =
+    bind_ok (source h.format text) _ s e (λ picture read e1.
+    bind_ok (tiles h t picture.1) _ s e1 (λ results read_tiles e2.
+    bind_ok (end results.1) _ s e2 (λ (last : Unit {0}) read_end made.
+    let p = source_right h.format text picture read in
+    subst (λ (y : Said). (y.header ≡ h) × HasPicture y.header.format y.source × IsPictureBelow (2 ^ y.header.format.depth) y.source)
+    (same_ok (record { header = h; source = picture.0; tiles = results.0 }) s made) (refl, p.0, p.1))))
+
+-- what the header has, the text has
+pub body_keeps : (Q : Header → Type 0) (h : Header) (t : TilingInfo) (text : List ℕ) (r : Result (Text ℕ) TextError) → Gives (said (λ (x : ℕ). pos x)) r (body h t text) → Q h → IfOk r (λ x. Q x.header)
+body_keeps Q h t text (Ok x) gives q = subst Q (sym (body_right h t text (said (λ (n : ℕ). pos n) x) gives).0) q
+body_keeps Q h t text (Err e) gives q = tt
+
+pub body_sides : (h : Header) (t : TilingInfo) (text : List ℕ) (r : Result (Text ℕ) TextError) → Gives (said (λ (x : ℕ). pos x)) r (body h t text) → IfOk r (λ x. HasPicture x.header.format (said_planes (λ (n : ℕ). pos n) x.source))
+body_sides h t text (Ok x) gives = (body_right h t text (said (λ (n : ℕ). pos n) x) gives).1
+body_sides h t text (Err e) gives = tt
+
+pub body_depth : (h : Header) (t : TilingInfo) (text : List ℕ) (r : Result (Text ℕ) TextError) → Gives (said (λ (x : ℕ). pos x)) r (body h t text) → IfOk r (λ x. IsPictureBelow (2 ^ x.header.format.depth) (said_planes (λ (n : ℕ). pos n) x.source))
+body_depth h t text (Ok x) gives = (body_right h t text (said (λ (n : ℕ). pos n) x) gives).2
+body_depth h t text (Err e) gives = tt
