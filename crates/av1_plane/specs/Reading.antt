@@ -5,7 +5,7 @@ use Rattle.av1_plane.specs.declared.region.PlaneRegion.{PlaneRegion}
 use Rattle.av1_plane.specs.declared.plane.PlaneConfig.{PlaneConfig}
 use Rattle.av1_plane.specs.declared.region_mut.PlaneRegionMut.{PlaneRegionMut}
 use Rattle.av1_plane.specs.declared.area.Area.{Area}
-use Rattle.av1_plane.specs.Area.{area_rect, IsArea, IsNearRect, IsWithin, moved_rect}
+use Rattle.av1_plane.specs.Area.{area_rect, homed_rect, IsArea, IsNearRect, IsWithin, moved_rect}
 use Rattle.av1_plane.specs.Layout.{rows}
 use Rattle.av1_plane.specs.Region.{samples_under, first_place, row_step, area}
 
@@ -42,6 +42,10 @@ seen_as r = record { samples = samples_seen r; step = step_seen r; cfg = r.plane
 -- the same of a region for writing
 abbrev pub seen_under : {X : Type 0} → PlaneRegionMut X → Seen X
 seen_under r = record { samples = drop (first_place r) (samples_under r); step = row_step r; cfg = r.plane_cfg.now; area = area r }
+
+-- the same samples, with the rectangle at the origin
+abbrev pub homed : {X : Type 0} → Seen X → Seen X
+homed s = record s { area = homed_rect s.area }
 
 -- all rows
 abbrev pub rows_of : {X : Type 0} → Seen X → List (List X)

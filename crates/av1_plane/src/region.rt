@@ -66,10 +66,10 @@ pub struct PlaneRegion<'a, T> {
 impl<'a, T: Pixel> PlaneRegion<'a, T> {
     ghost use Rattle.av1_plane.specs.Place.{rect_start, origin_place, from_origin, IsInPlane, no_area};
     ghost use Rattle.std.specs.Prelude.{◌^◌, ◌⊎◌, ◌↔◌, IsTrue, pos, neg_ℤ, ◌-◌, ◌+ℤ◌, ◌≤ℤ◌, ◌<ℤ◌, unsigned_abs};
-    ghost use Rattle.av1_plane.specs.Area.{homed_rect, IsNearRect, IsOnBlock, IsOnSuperBlock};
+    ghost use Rattle.av1_plane.specs.Area.{IsNearRect, IsOnBlock, IsOnSuperBlock};
     ghost use Rattle.av1_plane.specs.Offset.{sample_sum, block_sum, superblock_sum, block_at, superblock_at};
     ghost use Rattle.av1_plane.specs.Windows.{first_rows, below_first, first_columns, behind_first, windows_down, windows_across};
-    ghost use Rattle.av1_plane.specs.Reading.{samples_seen, step_seen, area_seen, row_seen, rows_of, seen_as, part_of, HoldsArea, IsPartOf};
+    ghost use Rattle.av1_plane.specs.Reading.{samples_seen, step_seen, area_seen, row_seen, rows_of, seen_as, homed, part_of, HoldsArea, IsPartOf};
 
     /// The region of that rectangle whose row `i` is the `width` samples from entry `i * step` on;
     /// the last row may end with the samples.
@@ -301,10 +301,7 @@ impl<'a, T: Pixel> PlaneRegion<'a, T> {
 
     /// The same samples, seen as a rectangle at the origin.
     pub fn home(&self) -> PlaneRegion<'a, T>
-        ensures samples { samples_seen result ≡ samples_seen self.now }
-        ensures step { step_seen result ≡ step_seen self.now }
-        ensures cfg { result.plane_cfg.now ≡ self.now.plane_cfg.now }
-        ensures area { area_seen result ≡ homed_rect (area_seen self.now) }
+        ensures { seen_as result ≡ homed (seen_as self.now) }
     {
         let rect = Rect {
             x: 0,

@@ -17,10 +17,11 @@ pub struct TileMut<'a, T> {
 
 impl<'a, T: Pixel> TileMut<'a, T> {
     ghost use Rattle.std.specs.Prelude.{◌≡◌, IfOk};
-    ghost use Rattle.av1_plane.specs.Area.{area_rect, homed_rect, IsArea};
+    ghost use Rattle.av1_plane.specs.Area.{area_rect, IsArea};
+    ghost use Rattle.av1_plane.specs.Lending.{IsHomeOf};
     ghost use Rattle.av1_plane.specs.Planes.{IsCopyOf};
     ghost use Rattle.av1_plane.specs.Reading.{seen_as, seen_under};
-    ghost use Rattle.av1_plane.specs.Region.{area, first_place, IsStored};
+    ghost use Rattle.av1_plane.specs.Region.{area, IsStored};
     ghost use Rattle.av1_plane.specs.Tiles.{HoldsPart, IsLumaPart};
 
     /// The same tile for reading.
@@ -58,15 +59,9 @@ impl<'a, T: Pixel> TileMut<'a, T> {
 
     /// The same samples, each region seen as a rectangle at the origin.
     pub fn home(&mut self) -> TileMut<'_, T>
-        ensures y { result.planes.y.samples.now ≡ self.old.planes.y.samples.now }
-        ensures y_start { first_place result.planes.y ≡ first_place self.old.planes.y }
-        ensures y_area { area result.planes.y ≡ homed_rect (area self.old.planes.y) }
-        ensures u { result.planes.u.samples.now ≡ self.old.planes.u.samples.now }
-        ensures u_start { first_place result.planes.u ≡ first_place self.old.planes.u }
-        ensures u_area { area result.planes.u ≡ homed_rect (area self.old.planes.u) }
-        ensures v { result.planes.v.samples.now ≡ self.old.planes.v.samples.now }
-        ensures v_start { first_place result.planes.v ≡ first_place self.old.planes.v }
-        ensures v_area { area result.planes.v ≡ homed_rect (area self.old.planes.v) }
+        ensures y { IsHomeOf self.old.planes.y result.planes.y }
+        ensures u { IsHomeOf self.old.planes.u result.planes.u }
+        ensures v { IsHomeOf self.old.planes.v result.planes.v }
     {
         let Three { y, u, v } = &mut self.planes;
         let y = y.home();

@@ -1,8 +1,7 @@
 ghost use Rattle.std.specs.Prelude.{◌≡◌, ◌<◌, []};
 ghost use Rattle.std.specs.Borrow.{follows, sem};
 ghost use mir.Syntax.{named};
-ghost use Rattle.av1_plane.specs.Area.{homed_rect};
-ghost use Rattle.av1_plane.specs.Lending.{vec-row, with_samples, IsPartUnder};
+ghost use Rattle.av1_plane.specs.Lending.{vec-row, with_samples, IsHomeOf, IsPartUnder};
 ghost use Rattle.av1_plane.specs.Place.{no_area};
 ghost use Rattle.av1_plane.specs.Reading.{part_of, seen_under, rows_of, HoldsArea};
 ghost use Rattle.av1_plane.specs.RowsMut.{rows_left};
@@ -46,11 +45,7 @@ impl<'a, T: Pixel> PlaneRegionMut<'a, T> {
     /// The same samples, seen as a rectangle at the origin.
     pub fn home<'s>(&'s mut self) -> PlaneRegionMut<'s, T>
         ensures* lends { sem 𝓛 (follows (region.the_row (record { mir = named 1; lft = [] }) T.row) (vec-row T.row) self.entry.ghost_name result.samples.ghost_name (with_samples self.old)) }
-        ensures samples { result.samples.now ≡ self.old.samples.now }
-        ensures start { first_place result ≡ first_place self.old }
-        ensures step { row_step result ≡ row_step self.old }
-        ensures cfg { result.plane_cfg.now ≡ self.old.plane_cfg.now }
-        ensures rect { area result ≡ homed_rect (area self.old) }
+        ensures home { IsHomeOf self.old result }
     {
         let start = self.start;
         let step = self.step;
