@@ -23,6 +23,9 @@ impl<'a, T: Pixel> PlaneRegionMut<'a, T> {
         requires inside { 0 < (area self).width → 0 < (area self).height → HoldsArea self.plane_cfg.now (area self) part }
         ensures name { result.samples.ghost_name ≡ self.entry.samples.ghost_name }
         ensures samples { result.samples.now ≡ self.entry.samples.now }
+        ensures step { row_step result ≡ row_step self.entry }
+        ensures cfg { result.plane_cfg.now ≡ self.entry.plane_cfg.now }
+        ensures stored { IsStored result }
         ensures part { 0 < (area self.entry).width → 0 < (area self.entry).height → IsPartUnder self.entry result (part_of self.entry.plane_cfg.now (area self.entry) part) }
         ensures no_width { (area self.entry).width ≡ 0 → area result ≡ no_area }
         ensures no_height { (area self.entry).height ≡ 0 → area result ≡ no_area }
