@@ -1,7 +1,10 @@
 -- Lists related entry by entry, and a rectangle whose rows are changed in order.
-use Rattle.std.proofs.Common.{◌≡◌, ℕ, suc, ◌+◌, ◌-◌, ◌*◌, ◌<◌, ◌≤◌, List, ◌++◌, length, take, drop, get_or, set, refl, sym, ap, ◌∙◌, subst, inl, inr, arith, length-append}
+use Rattle.std.proofs.Common.{◌≡◌, ℕ, zero, suc, ◌+◌, ◌-◌, ◌*◌, ◌<◌, ◌≤◌, List, ◌++◌, length, take, drop, get_or, set, refl, sym, ap, ◌∙◌, subst, inl, inr, arith, length-append}
 use Rattle.std.proofs.lemmas.Bool.{cases_lt}
-use Rattle.std.proofs.lemmas.List.{take_all, drop_at, get_or_append_left, get_or-append_right, get_or-set_same, get_or-set_other, get_or_default}
+use Rattle.std.proofs.lemmas.Nat.{mul-le}
+use Rattle.std.proofs.lemmas.List.{take_all, take_at, drop_at, get_or_append_left, get_or-append_right, get_or-set_same, get_or-set_other, get_or_default}
+use Rattle.std.proofs.lemmas.List.Elements.{All-take, All-drop}
+use Rattle.std.specs.List.{All}
 use Rattle.av1_block.specs.Cut.{LiesIn, cut_of, overwritten, with_cut}
 use Rattle.av1_block.specs.Each.{AreRelated}
 use Rattle.av1_block.proofs.Runs.{run_of_overwritten}
@@ -85,3 +88,35 @@ module _ {E : Type 0} (R : E → E → Type 0) where
         let placed : after ≡ overwritten table ((y + row) * cols + x) run = is ∙ ap (λ (n : ℕ). overwritten table n run) place in
         let last' : AreRelated R (take width (drop ((y + row) * cols + x) table)) run = subst (λ (n : ℕ). AreRelated R (take width (drop n table)) run) place last in
         subst (λ (n : ℕ). P n after) (sym step) (subst (λ (l : List E). P (suc row) l) (sym placed) (next_related rows last', next_elsewhere))
+
+-- what holds of each entry of a rectangle
+module _ {E : Type 0} (P : E → Type 0) where
+  All-front : (xs ys : List E) → All P (xs ++ ys) → All P xs
+  All-front xs ys each = subst (λ (l : List E). All P l) (take_at xs ys (length xs) refl) (All-take P (length xs) (xs ++ ys) each)
+
+  All-back : (xs ys : List E) → All P (xs ++ ys) → All P ys
+  All-back xs ys each = subst (λ (l : List E). All P l) (drop_at xs ys (length xs) refl) (All-drop P (length xs) (xs ++ ys) each)
+
+  -- holds of those of one row
+  All-row : (table : List E) (cols x y width height row : ℕ) → row < height → All P (cut_of table cols x y width height) → All P (take width (drop ((y + row) * cols + x) table))
+  unfolding cut_of
+  All-row table cols x y width zero row below each = absurd (omega (arith, below))
+  All-row table cols x y width (suc height) row below each =
+      let rows : List E = cut_of table cols x y width height in
+      let last : List E = take width (drop ((y + height) * cols + x) table) in
+      elim (cases_lt row height) [
+        | inl less ↦ All-row table cols x y width height row less (All-front rows last each)
+        | inr more ↦
+            let same : height ≡ row = omega arith in
+            subst (λ (n : ℕ). All P (take width (drop ((y + n) * cols + x) table))) same (All-back rows last each)
+      ]
+
+  -- also while only the rows above it were changed
+  pub All-next_row : (before table : List E) (cols x y width height row from : ℕ) → LiesIn (length before) cols x y width height → row < height → from ≡ (y + row) * cols + x
+      → table ≡ with_cut before cols x y width row (cut_of table cols x y width row) → All P (cut_of before cols x y width height) → All P (take width (drop from table))
+  All-next_row before table cols x y width height row from inside below place elsewhere each =
+      let less : LiesIn (length before) cols x y width row = record { across = inside.across; down = omega (arith, inside.down, mul-le (y + row) cols (y + height) cols (omega arith) (omega arith)) } in
+      let untouched : drop from table ≡ drop ((y + row) * cols + x) before =
+      ap (λ (n : ℕ). drop n table) place ∙ (ap (λ (l : List E). drop ((y + row) * cols + x) l) elsewhere
+      ∙ below_put before cols x y width row (cut_of table cols x y width row) ((y + row) * cols + x) less (omega arith)) in
+      subst (λ (l : List E). All P (take width l)) (sym untouched) (All-row before cols x y width height row below each)

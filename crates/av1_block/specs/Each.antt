@@ -5,6 +5,10 @@ use Rattle.std.specs.Borrow.{MutBor}
 use Rattle.std.specs.Fn.{Shared}
 use Rattle.av1_block.specs.declared.block.Block.{Block}
 
+-- f may be called at a `&mut` to the block
+abbrev pub Takes : {F : Type 0} → Shared F (MutBor Block × Unit {0}) (Unit {0} × (MutBor Block × Unit {0})) → F → Block → Type 0
+Takes g f block = (shown : MutBor Block) → shown.now ≡ block → g.pre f (shown, tt)
+
 -- a call of f at a `&mut` to a block may leave another there
 pub record Leaves {F : Type 0} (g : Shared F (MutBor Block × Unit {0}) (Unit {0} × (MutBor Block × Unit {0}))) (f : F) (before after : Block) : Type 0 where
   pub shown : MutBor Block

@@ -1,6 +1,6 @@
 use crate::{
-    AsTileBlocks, Block, BlockSize, Cut, FrameBlocks, FrameMEStats, MEStats, RefType, TileBlocks,
-    TileBlocksMut, TileMEStats, TileMEStatsMut, TxSize, laws,
+    AsTileBlocks, Block, BlockSize, Cut, FrameBlocks, FrameMEStats, MEStats, MotionVector, RefType,
+    TileBlocks, TileBlocksMut, TileMEStats, TileMEStatsMut, TxSize, laws,
 };
 use av1_plane::{BlockOffset, TileBlockOffset, TileRect};
 use std::test::Fail;
@@ -38,7 +38,13 @@ fn tables_start_with_defaults(rt: HostRuntime) -> Result<(), Fail> {
     );
     let stats = FrameMEStats::new(rt.alloc(), 2, 2)?;
     assert_eq!(rt; stats.entries().len(), 4);
-    assert!(rt; stats.entries().iter().all(|stat| stat.normalized_sad == 0));
+    let still = MotionVector::default();
+    assert!(rt;
+        stats
+            .entries()
+            .iter()
+            .all(|stat| stat.mv == still && stat.normalized_sad == 0)
+    );
     Ok(())
 }
 

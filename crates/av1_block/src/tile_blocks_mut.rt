@@ -18,14 +18,14 @@ pub struct TileBlocksMut<'a> {
 }
 
 impl<'a> TileBlocksMut<'a> {
-    ghost use Rattle.std.specs.Prelude.{◌≡◌, ◌+◌, ◌-◌, ◌*◌, ◌<◌, ◌≤◌, min, [], take, drop};
+    ghost use Rattle.std.specs.Prelude.{◌≡◌, ◌+◌, ◌-◌, ◌*◌, ◌<◌, ◌≤◌, min, [], All, take, drop};
     ghost use Rattle.std.specs.Borrow.{sem, follows, Lends, Array};
     ghost use mir.Syntax.{named};
     ghost use Rattle.av1_block.specs.Windows.{frame_window, cut_window, part_of};
     ghost use Rattle.av1_block.specs.Tables.{table_entries, view_entries, view_step, view_x, view_y, view_cols, view_rows, view_frame_cols, view_frame_rows};
     ghost use Rattle.av1_block.specs.Cut.{cut_entries, cut_rect};
     ghost use Rattle.av1_block.specs.Writing.{window, table_under, blocks_under, place_under, block_under, lent_name, IsPlaced, IsSameView, with_blocks_at, with_table, with_each_of, part_blocks, with_part};
-    ghost use Rattle.av1_block.specs.Each.{Leaves, AreRelated};
+    ghost use Rattle.av1_block.specs.Each.{Takes, Leaves, AreRelated};
     ghost use Rattle.av1_block.specs.Sides.{block_width, block_height};
     ghost use Rattle.av1_block.specs.Changes.{changed};
     ghost use Rattle.av1_block.specs.Cut.{with_cut_table};
@@ -272,9 +272,9 @@ impl<'a> TileBlocksMut<'a> {
     /// Calls `f` on each block of the size `bsize` at `bo`, where the view has it.
     pub fn for_each<F: Fn(&mut Block)>(&mut self, bo: TileBlockOffset, bsize: BlockSize, f: F)
         requires placed { IsPlaced self.old }
-        requires column { bo.0.x < (window self.old).cols }
-        requires row { bo.0.y < (window self.old).rows }
-        requires callable { F.IsAlwaysCallable f }
+        requires column { bo.0.x ≤ (window self.old).cols }
+        requires row { bo.0.y ≤ (window self.old).rows }
+        requires callable { All (Takes F.Fn f) (part_blocks self.old bo.0 (block_width bsize) (block_height bsize)) }
         ensures same { IsSameView self.old self.new }
         ensures placed { IsPlaced self.new }
         ensures changed { AreRelated (Leaves F.Fn f) (part_blocks self.old bo.0 (block_width bsize) (block_height bsize)) (part_blocks self.new bo.0 (block_width bsize) (block_height bsize)) }

@@ -21,8 +21,8 @@ pub struct Window {
 impl Window {
     /// The part from column `x` of row `y` on, with these sides where the window has them.
     pub fn part(self, x: usize, y: usize, cols: usize, rows: usize) -> Window
-        requires column { x < self.cols }
-        requires row { y < self.rows }
+        requires column { x ≤ self.cols }
+        requires row { y ≤ self.rows }
         requires left { self.left + self.cols < 2 ^ 64 }
         requires top { self.top + self.rows < 2 ^ 64 }
         requires across { self.x + self.cols ≤ self.frame_cols }

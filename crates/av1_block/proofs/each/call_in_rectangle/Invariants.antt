@@ -5,7 +5,6 @@ use Rattle.av1_block.proofs.each.call_in_rectangle.Given as goal
 
 abbrev pub invariant-loop-row : goal.invariant-loop-row
 invariant-loop-row g l = record {
-  callable : goal.F-IsAlwaysCallable g l.f;
   changed : AreRelated (Leaves g.F.Fn l.f) (cut_of l.initial.entries l.cols l.x l.y l.width l.row) (cut_of l.entries l.cols l.x l.y l.width l.row);
   elsewhere : l.entries ≡ with_cut l.initial.entries l.cols l.x l.y l.width l.row (cut_of l.entries l.cols l.x l.y l.width l.row);
 }

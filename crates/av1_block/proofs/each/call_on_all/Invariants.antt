@@ -5,7 +5,6 @@ use Rattle.av1_block.proofs.each.call_on_all.Given as goal
 
 abbrev pub invariant-loop-block : goal.invariant-loop-block
 invariant-loop-block g l = record {
-  callable : goal.F-IsAlwaysCallable g l.f;
   changed : (k : ℕ) (d : Block) → k < l.block-index → Leaves g.F.Fn l.f (slice_index_or l.initial.blocks k d) (slice_index_or l.blocks k d);
   rest : (k : ℕ) (d : Block) → l.block-index ≤ k → slice_index_or l.blocks k d ≡ slice_index_or l.initial.blocks k d;
 }
