@@ -11,7 +11,7 @@ pub enum FrameType {
 }
 
 /// What does not change while a frame is coded.
-#[derive(Drop)]
+#[derive(Debug, Drop)]
 pub struct FrameInvariants<T> {
     pub sequence: Sequence,
     pub width: usize,

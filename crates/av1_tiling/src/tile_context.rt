@@ -8,7 +8,7 @@ use std::alloc::Global;
 use std::marker::Model;
 
 /// All that one tile is coded from and into: its state and its blocks.
-#[derive(Drop)]
+#[derive(Debug, Drop)]
 pub struct TileContextMut<T: Pixel> {
     pub ts: TileStateMut<T>,
     blocks: Cut<Block>,

@@ -1,8 +1,9 @@
 use crate::tile_context::TileContextMut;
 use av1_plane::Pixel;
+use std::iter::FusedIterator;
 
 /// The tiles of a frame, row by row.
-#[derive(Drop)]
+#[derive(Debug, Drop)]
 pub struct TileContextIterMut<T: Pixel> {
     // the last tile first
     left: Vec<TileContextMut<T>>,
@@ -33,4 +34,16 @@ impl<T: Pixel> Iterator for TileContextIterMut<T> {
     fn next(&mut self) -> Option<TileContextMut<T>> {
         self.left.pop()
     }
+
+    fn size_hint(&self) -> (usize, Option<usize>) {
+        (self.left.len(), Some(self.left.len()))
+    }
 }
+
+impl<T: Pixel> ExactSizeIterator for TileContextIterMut<T> {
+    fn len(&self) -> usize {
+        self.left.len()
+    }
+}
+
+impl<T: Pixel> FusedIterator for TileContextIterMut<T> {}

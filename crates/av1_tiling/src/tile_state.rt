@@ -10,7 +10,7 @@ use std::sync::Arc;
 
 /// What a tile is coded from, beside its blocks: its place and sides, the whole input, and the tile's
 /// part of the reconstruction, which it owns until it is put back.
-#[derive(Drop)]
+#[derive(Debug, Drop)]
 pub struct TileStateMut<T: Pixel> {
     /// The tile's first superblock.
     pub sbo: PlaneSuperBlockOffset,
