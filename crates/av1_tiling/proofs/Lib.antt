@@ -1,4 +1,4 @@
-mod Examples
+pub mod Examples
 pub mod Blank
 pub mod LeastFacts
 pub mod Refills

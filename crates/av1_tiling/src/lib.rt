@@ -11,6 +11,8 @@ pub mod laws;
 mod part;
 mod putting;
 mod sequence;
+#[cfg(test)]
+mod tests;
 mod tile_context;
 mod tile_context_iter;
 mod tile_limits;
