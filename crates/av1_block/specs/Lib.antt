@@ -10,3 +10,4 @@ pub mod Motion
 pub mod Changes
 pub mod MotionViews
 pub mod Each
+pub mod Whole
