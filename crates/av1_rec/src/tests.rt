@@ -1,10 +1,12 @@
 use super::*;
 use crate::block_line::BlockLine;
 use crate::block_table::blocks_said;
+use crate::header::FrameFormat;
+use crate::picture::source_frame;
 use crate::report::{Results, report};
 use av1_block::{Block, BlockSize};
 use av1_frame::{GroupError, OpenGate};
-use av1_plane::{Plane, PlaneRegion, Rect};
+use av1_plane::{ChromaSampling, Plane, PlaneRegion, Rect, Three};
 use std::alloc::{AllocError, Global};
 use std::test::*;
 use std::thread::Threads;
@@ -282,5 +284,31 @@ fn reports(rt: HostRuntime) -> Result<(), Fail> {
     let want =
         b"levels 5 63 0 1\nsize_bytes 2\ncontext_tile 10\ngroup 00ff\nplane 0\n6465\n66ff\nend\n";
     assert_eq!(rt; text.as_slice(), want.as_slice());
+    Ok(())
+}
+
+#[test]
+fn fills_a_frame(rt: HostRuntime) -> Result<(), Fail> {
+    let alloc = rt.alloc();
+    let format = FrameFormat {
+        width: 3,
+        height: 1,
+        sampling: ChromaSampling::Cs420,
+        depth: 10,
+    };
+    let source = Three {
+        y: vec![in alloc; vec![in alloc; 5u16, 6, 7]?]?,
+        u: vec![in alloc; vec![in alloc; 8u16, 9]?]?,
+        v: vec![in alloc; vec![in alloc; 10u16, 11]?]?,
+    };
+    let frame = source_frame(alloc, &format, &source)?;
+    for (plane, first, last) in [
+        (&frame.planes.y, 5, 7),
+        (&frame.planes.u, 8, 9),
+        (&frame.planes.v, 10, 11),
+    ] {
+        assert!(rt; plane.samples.first() == Some(&first));
+        assert!(rt; plane.samples.last() == Some(&last));
+    }
     Ok(())
 }
