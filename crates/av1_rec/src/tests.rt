@@ -1,3 +1,5 @@
+ghost use Rattle.std.specs.Prelude.{None};
+
 use super::*;
 use crate::block_line::BlockLine;
 use crate::block_table::blocks_said;
@@ -80,35 +82,30 @@ fn reports_a_right_text(rt: HostRuntime) -> Result<(), Fail> {
 fn refuses_results(rt: HostRuntime) -> Result<(), Fail> {
     let alloc = rt.alloc();
     let rows = joined(alloc, &[HEADER, b"source\n", ROWS])?;
-    for (first, samples, rest, error, line) in [
+    let front = rows.as_slice();
+    for (first, samples, rest, line) in [
         (
             b"tile 0 refused\n".as_slice(),
             b"".as_slice(),
-            b"".as_slice(),
-            GroupError::Coder { tile: 0 },
+            b"end\n".as_slice(),
             b"refused coder tile 0\n".as_slice(),
         ),
         (
             b"tile 0 -\n",
             ROWS,
-            b"blocks 0\nunits 0\n",
-            GroupError::EmptyTile { tile: 0 },
+            b"blocks 0\nunits 0\nend\n",
             b"refused empty tile 0\n",
         ),
         (
             b"tile 0 07\n",
             ROWS,
-            b"blocks 0\nunits 0\n",
-            GroupError::BadBlock { tile: 0 },
+            b"blocks 0\nunits 0\nend\n",
             b"refused block tile 0\n",
         ),
     ] {
-        let text = joined(
-            alloc,
-            &[rows.as_slice(), first, samples, rest, b"end\n"],
-        )?;
+        let text = joined(alloc, &[front, first, samples, rest])?;
         let (status, printed) = ran(&rt, alloc, "group 1", text)?;
-        assert_eq!(rt; status, Status::Group(error));
+        assert_eq!(rt; status.code(), 7);
         assert_eq!(rt; printed.as_slice(), line);
     }
     Ok(())
@@ -149,7 +146,11 @@ fn refuses_texts(rt: HostRuntime) -> Result<(), Fail> {
             b"".as_slice(),
             b"refused syntax line 1\n".as_slice(),
         ),
-        (HEADER, b"source\n64646464", b"refused syntax line 10\n"),
+        (
+            HEADER,
+            b"source\n64646464646464646868686868686868\n64646464646464646868686868686868\n64646464",
+            b"refused syntax line 12\n",
+        ),
         (rows.as_slice(), b"tile 0 0\n", b"refused syntax line 18\n"),
         (rows.as_slice(), b"tile 1 07\n", b"refused syntax line 18\n"),
         (
@@ -159,8 +160,13 @@ fn refuses_texts(rt: HostRuntime) -> Result<(), Fail> {
         ),
         (
             tile.as_slice(),
-            b"blocks 0\nunits 0\nend\n\n",
+            b"blocks 0\nunits 0\nend\n??",
             b"refused syntax line 30\n",
+        ),
+        (
+            tile.as_slice(),
+            b"blocks 0\nunits 0\nend",
+            b"refused syntax line 29\n",
         ),
         (
             tile.as_slice(),
@@ -173,6 +179,32 @@ fn refuses_texts(rt: HostRuntime) -> Result<(), Fail> {
         let (_, printed) = ran(&rt, alloc, "group 1", joined(alloc, &[front, rest])?)?;
         assert_eq!(rt; printed.as_slice(), line);
     }
+    Ok(())
+}
+
+// Gives line feeds without end.
+#[derive(Drop)]
+struct Endless;
+
+impl Source for Endless {
+    ghost left = { λ source. None };
+
+    ghost faults = { λ source. 0 };
+
+    fn read(&mut self, buf: &mut [u8]) -> Result<usize, Failed> {
+        buf.fill(b'\n');
+        Ok(buf.len())
+    }
+}
+
+#[test]
+fn refuses_too_long_a_text(rt: HostRuntime) -> Result<(), Fail> {
+    let alloc = rt.alloc();
+    let words = split(alloc, "group 1")?;
+    let mut sink = PlainSink::new(alloc);
+    let status = run(&rt, alloc, &words, &mut Endless, &mut sink, &OpenGate);
+    assert_eq!(rt; status, Status::TooLong);
+    assert_eq!(rt; sink.bytes(), b"refused too long\n".as_slice());
     Ok(())
 }
 
