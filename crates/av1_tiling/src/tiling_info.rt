@@ -16,7 +16,7 @@ pub const MAX_TILE_ROWS: usize = 64;
 pub const MAX_TILE_RATE: u64 = 588251136;
 
 /// How a frame is cut into tiles (AV1 specification, section 5.9.15).
-#[derive(Clone, Copy, Debug)]
+#[derive(Clone, Copy, Debug, PartialEq, Eq)]
 pub struct TilingInfo {
     /// The frame's sides, rounded up to whole blocks of 8 samples.
     pub frame_width: usize,
@@ -197,7 +197,8 @@ mod tests {
                 0,
                 false,
             );
-            assert!(rt; answer.is_err(), "at {width} by {height}, {num} / {den}");
+            let none = Err(TilingError::NoTiling);
+            assert_eq!(rt; answer, none, "at {width} by {height}, {num} / {den}");
         }
     }
 
