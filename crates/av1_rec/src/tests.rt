@@ -99,7 +99,7 @@ fn refuses_results(rt: HostRuntime) -> Result<(), Fail> {
         (
             b"tile 0 07\n",
             ROWS,
-            b"blocks 0\nunits 0\nend\n",
+            b"blocks 1\n0 0 1 1 3 1 0 0 0 8 0 2 0 0 0 0 0 0\nunits 0\nend\n",
             b"refused block tile 0\n",
         ),
     ] {
