@@ -22,7 +22,9 @@ impl<T: Pixel> TileContextIterMut<T> {
 }
 
 impl<T: Pixel> Iterator for TileContextIterMut<T> {
-    ghost use Rattle.std.specs.Iterator.{YieldsFirst, item_count};
+    ghost use Rattle.std.specs.Prelude.{◌≡◌, length, Some, IfSome};
+    ghost use Rattle.std.specs.Iterator.{YieldsFirst, UpTo, item_count};
+    ghost use Rattle.std.specs.Iterator.SizeHint.{IsWithinCount};
     ghost use Rattle.av1_tiling.specs.Tiles.{tiles_left};
 
     type Item = TileContextMut<T>;
@@ -35,7 +37,11 @@ impl<T: Pixel> Iterator for TileContextIterMut<T> {
         self.left.pop()
     }
 
-    fn size_hint(&self) -> (usize, Option<usize>) {
+    fn size_hint(&self) -> (usize, Option<usize>)
+        ensures lower { IsWithinCount result.0 (item_count tiles_left self.now) }
+        ensures upper { IfSome result.1 (UpTo (item_count tiles_left self.now)) }
+        ensures exact { result ≡ (length (tiles_left self.now), Some (length (tiles_left self.now))) }
+    {
         (self.left.len(), Some(self.left.len()))
     }
 }
