@@ -4,6 +4,7 @@ pub mod EdgeSides
 pub mod Views
 pub mod EdgeFits
 pub mod Lines
+pub mod Runs
 pub mod EdgeLists
 pub mod Planes
 pub mod EdgeLaws

@@ -5,3 +5,4 @@ pub mod Passes
 pub mod Conditions
 pub mod Frames
 pub mod Laws
+pub mod Runs

@@ -6,7 +6,7 @@ ghost use Rattle.av1_deblock.specs.Edges.{IsWithin, IsSound};
 ghost use Rattle.av1_deblock.specs.Passes.{gathered, scattered, with_line, with_lines, with_edge, LineBelow, EdgeBelow, KeepsDepth, HasEdge};
 
 use crate::line::filter_numbers;
-use crate::sample::{read, write};
+use crate::sample::{read, read_run, write, write_run};
 use av1_plane::{Pixel, PlaneRegionMut};
 
 /// An edge: four lines of samples, each with half of its samples on either side.
@@ -26,7 +26,7 @@ pub struct Edge {
 
 // Reads line k of a vertical edge.
 #[inline(always)]
-#[tactic(auto, using(crate::proofs::Lines::gathers))]
+#[tactic(auto, using(crate::proofs::Runs::vertical_lines))]
 fn gather_vertical<T: Pixel>(p: &PlaneRegionMut<'_, T>, edge: Edge, k: usize, line: &mut [i32])
     requires edge { HasEdge p.now edge }
     requires direction { edge.vertical ≡ true }
@@ -34,9 +34,9 @@ fn gather_vertical<T: Pixel>(p: &PlaneRegionMut<'_, T>, edge: Edge, k: usize, li
     requires size { length line.old ≡ edge.size }
     ensures { line.new ≡ gathered (first_place p.now) (row_step p.now) (numbers_under T.number p.now) edge k edge.size }
 {
-    for j in 0..line.len() {
-        line[j] = read(p, edge.x + j, edge.y + k);
-    }
+    let _rows = p.rect().height;
+    let n = line.len();
+    read_run(p, edge.x, edge.y + k, line, 0, n);
 }
 
 // Reads line k of a horizontal edge.
@@ -56,7 +56,7 @@ fn gather_horizontal<T: Pixel>(p: &PlaneRegionMut<'_, T>, edge: Edge, k: usize, 
 
 // Writes line k of a vertical edge.
 #[inline(always)]
-#[tactic(auto, using(crate::proofs::Lines::scatters))]
+#[tactic(auto, using(crate::proofs::Runs::vertical_lines))]
 fn scatter_vertical<T: Pixel>(p: &mut PlaneRegionMut<'_, T>, edge: Edge, k: usize, line: &[i32])
     requires edge { HasEdge p.old edge }
     requires direction { edge.vertical ≡ true }
@@ -66,9 +66,8 @@ fn scatter_vertical<T: Pixel>(p: &mut PlaneRegionMut<'_, T>, edge: Edge, k: usiz
     ensures part { IsSamePart p.old p.new }
     ensures value { numbers_under T.number p.new ≡ scattered (first_place p.old) (row_step p.old) (numbers_under T.number p.old) edge k line.now edge.size }
 {
-    for j in 0..line.len() {
-        write(p, edge.x + j, edge.y + k, line[j]);
-    }
+    let _rows = p.rect().height;
+    write_run(p, edge.x, edge.y + k, line, 0, line.len());
 }
 
 // Writes line k of a horizontal edge.
