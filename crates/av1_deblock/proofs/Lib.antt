@@ -5,6 +5,7 @@ pub mod Views
 pub mod EdgeFits
 pub mod Lines
 pub mod Runs
+pub mod SideBySide
 pub mod EdgeLists
 pub mod Planes
 pub mod EdgeLaws

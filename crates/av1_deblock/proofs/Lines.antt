@@ -1,7 +1,6 @@
 -- Lines of an edge, read and written, and edges one after another.
 use Rattle.std.proofs.Common.{◌≡◌, true, false, ℕ, ℤ, pos, zero, suc, ◌+◌, ◌<◌, ◌≤◌, List, [], ◌∷◌, ◌++◌, length, take, set, get_or, refl, arith, add-one, ◌∙◌, sym, subst, ap, length-append, length-set, All, inl, inr}
 use Rattle.std.proofs.Math.Seq.{take-suc-set, get_or-append_seam}
-use Rattle.std.proofs.lemmas.Int.{to_z-of_z}
 use Rattle.std.proofs.lemmas.Bool.{cases_lt, cases_eq}
 use Rattle.std.proofs.lemmas.List.{get_or-set_other, get_or_past, get_or_append_left, set-get_or}
 use Rattle.std.proofs.lemmas.Grind.{get_or-set_at}
@@ -128,10 +127,6 @@ with_lines_none bd o s xs e = refl
 pub with_lines_more : (bd o s : ℕ) (xs : List ℤ) (e : Edge) (k : ℕ) → with_lines bd o s xs e (k + 1) ≡ with_line bd o s (with_lines bd o s xs e k) e k
 unfolding with_lines
 with_lines_more bd o s xs e k = rw add-one refl
-
-pub ruleset gathers = (place_vertical, place_horizontal, gathered_none, gathered_step, to_z-of_z)
-
-pub ruleset scatters = (place_vertical, place_horizontal, edge_still, part_still, part_same, scattered_none, scattered_more, to_z-of_z)
 
 pub ruleset lines = (edge_still, part_still)
 

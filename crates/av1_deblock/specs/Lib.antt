@@ -6,3 +6,4 @@ pub mod Conditions
 pub mod Frames
 pub mod Laws
 pub mod Runs
+pub mod Columns

@@ -5,8 +5,9 @@ ghost use Rattle.av1_deblock.specs.Line.{IsSize, IsDepth};
 ghost use Rattle.av1_deblock.specs.Edges.{IsWithin, IsSound};
 ghost use Rattle.av1_deblock.specs.Passes.{gathered, scattered, with_line, with_lines, with_edge, LineBelow, EdgeBelow, KeepsDepth, HasEdge};
 
+use crate::columns::filter_columns;
 use crate::line::filter_numbers;
-use crate::sample::{read, read_run, write, write_run};
+use crate::sample::{read_run, write_run};
 use av1_plane::{Pixel, PlaneRegionMut};
 
 /// An edge: four lines of samples, each with half of its samples on either side.
@@ -27,7 +28,7 @@ pub struct Edge {
 // Reads line k of a vertical edge.
 #[inline(always)]
 #[tactic(auto, using(crate::proofs::Runs::vertical_lines))]
-fn gather_vertical<T: Pixel>(p: &PlaneRegionMut<'_, T>, edge: Edge, k: usize, line: &mut [i32])
+fn gather<T: Pixel>(p: &PlaneRegionMut<'_, T>, edge: Edge, k: usize, line: &mut [i32])
     requires edge { HasEdge p.now edge }
     requires direction { edge.vertical ≡ true }
     requires number { k < 4 }
@@ -39,25 +40,10 @@ fn gather_vertical<T: Pixel>(p: &PlaneRegionMut<'_, T>, edge: Edge, k: usize, li
     read_run(p, edge.x, edge.y + k, line, 0, n);
 }
 
-// Reads line k of a horizontal edge.
-#[inline(always)]
-#[tactic(auto, using(crate::proofs::Lines::gathers))]
-fn gather_horizontal<T: Pixel>(p: &PlaneRegionMut<'_, T>, edge: Edge, k: usize, line: &mut [i32])
-    requires edge { HasEdge p.now edge }
-    requires direction { edge.vertical ≡ false }
-    requires number { k < 4 }
-    requires size { length line.old ≡ edge.size }
-    ensures { line.new ≡ gathered (first_place p.now) (row_step p.now) (numbers_under T.number p.now) edge k edge.size }
-{
-    for j in 0..line.len() {
-        line[j] = read(p, edge.x + k, edge.y + j);
-    }
-}
-
 // Writes line k of a vertical edge.
 #[inline(always)]
 #[tactic(auto, using(crate::proofs::Runs::vertical_lines))]
-fn scatter_vertical<T: Pixel>(p: &mut PlaneRegionMut<'_, T>, edge: Edge, k: usize, line: &[i32])
+fn scatter<T: Pixel>(p: &mut PlaneRegionMut<'_, T>, edge: Edge, k: usize, line: &[i32])
     requires edge { HasEdge p.old edge }
     requires direction { edge.vertical ≡ true }
     requires number { k < 4 }
@@ -68,53 +54,6 @@ fn scatter_vertical<T: Pixel>(p: &mut PlaneRegionMut<'_, T>, edge: Edge, k: usiz
 {
     let _rows = p.rect().height;
     write_run(p, edge.x, edge.y + k, line, 0, line.len());
-}
-
-// Writes line k of a horizontal edge.
-#[inline(always)]
-#[tactic(auto, using(crate::proofs::Lines::scatters))]
-fn scatter_horizontal<T: Pixel>(p: &mut PlaneRegionMut<'_, T>, edge: Edge, k: usize, line: &[i32])
-    requires edge { HasEdge p.old edge }
-    requires direction { edge.vertical ≡ false }
-    requires number { k < 4 }
-    requires size { length line.now ≡ edge.size }
-    requires range { Below T.limit line.now }
-    ensures part { IsSamePart p.old p.new }
-    ensures value { numbers_under T.number p.new ≡ scattered (first_place p.old) (row_step p.old) (numbers_under T.number p.old) edge k line.now edge.size }
-{
-    for j in 0..line.len() {
-        write(p, edge.x + k, edge.y + j, line[j]);
-    }
-}
-
-#[inline(always)]
-fn gather<T: Pixel>(p: &PlaneRegionMut<'_, T>, edge: Edge, k: usize, line: &mut [i32])
-    requires edge { HasEdge p.now edge }
-    requires number { k < 4 }
-    requires size { length line.old ≡ edge.size }
-    ensures { line.new ≡ gathered (first_place p.now) (row_step p.now) (numbers_under T.number p.now) edge k edge.size }
-{
-    if edge.vertical {
-        gather_vertical(p, edge, k, line);
-    } else {
-        gather_horizontal(p, edge, k, line);
-    }
-}
-
-#[inline(always)]
-fn scatter<T: Pixel>(p: &mut PlaneRegionMut<'_, T>, edge: Edge, k: usize, line: &[i32])
-    requires edge { HasEdge p.old edge }
-    requires number { k < 4 }
-    requires size { length line.now ≡ edge.size }
-    requires range { Below T.limit line.now }
-    ensures part { IsSamePart p.old p.new }
-    ensures value { numbers_under T.number p.new ≡ scattered (first_place p.old) (row_step p.old) (numbers_under T.number p.old) edge k line.now edge.size }
-{
-    if edge.vertical {
-        scatter_vertical(p, edge, k, line);
-    } else {
-        scatter_horizontal(p, edge, k, line);
-    }
 }
 
 // Line k, read, filtered and written back, by way of `line`.
@@ -129,6 +68,7 @@ fn filter_line<T: Pixel>(
 )
     requires edge { HasEdge p.old edge }
     requires sound { IsSound edge }
+    requires direction { edge.vertical ≡ true }
     requires number { k < 4 }
     requires size { length line.old ≡ edge.size }
     requires depth { IsDepth bd }
@@ -144,11 +84,12 @@ fn filter_line<T: Pixel>(
     }
 }
 
-// The four lines of an edge, by way of `line`.
+// The four lines of a vertical edge, by way of `line`.
 #[inline(always)]
 #[tactic(auto, using(crate::proofs::Lines::edge_lines))]
 fn filter_lines<T: Pixel>(p: &mut PlaneRegionMut<'_, T>, edge: Edge, bd: usize, line: &mut [i32])
     requires edge { HasEdge p.old edge }
+    requires direction { edge.vertical ≡ true }
     requires sound { IsSound edge }
     requires size { length line.old ≡ edge.size }
     requires depth { IsDepth bd }
@@ -163,9 +104,10 @@ fn filter_lines<T: Pixel>(p: &mut PlaneRegionMut<'_, T>, edge: Edge, bd: usize, 
     }
 }
 
-#[inline(never)]
-fn filter_sized<T: Pixel, const SIZE: usize>(p: &mut PlaneRegionMut<'_, T>, edge: Edge, bd: usize)
+#[inline(always)]
+fn filter_rows<T: Pixel, const SIZE: usize>(p: &mut PlaneRegionMut<'_, T>, edge: Edge, bd: usize)
     requires edge { HasEdge p.old edge }
+    requires direction { edge.vertical ≡ true }
     requires sound { IsSound edge }
     requires size { edge.size ≡ SIZE }
     requires depth { IsDepth bd }
@@ -177,6 +119,30 @@ fn filter_sized<T: Pixel, const SIZE: usize>(p: &mut PlaneRegionMut<'_, T>, edge
 {
     let mut line = [0; SIZE];
     filter_lines(p, edge, bd, &mut line);
+}
+
+#[inline(never)]
+fn filter_sized<T: Pixel, const SIZE: usize, const CELLS: usize>(
+    p: &mut PlaneRegionMut<'_, T>,
+    edge: Edge,
+    bd: usize,
+)
+    requires edge { HasEdge p.old edge }
+    requires sound { IsSound edge }
+    requires size { edge.size ≡ SIZE }
+    requires cells { CELLS ≡ 4 * SIZE }
+    requires depth { IsDepth bd }
+    requires limit { 2 ^ bd ≤ T.limit }
+    requires range { EdgeBelow (2 ^ bd) (first_place p.old) (row_step p.old) edge (numbers_under T.number p.old) }
+    ensures part { IsSamePart p.old p.new }
+    ensures value { numbers_under T.number p.new ≡ with_edge bd (first_place p.old) (row_step p.old) (numbers_under T.number p.old) edge }
+    ensures range { KeepsDepth (2 ^ bd) (numbers_under T.number p.old) (numbers_under T.number p.new) }
+{
+    if edge.vertical {
+        filter_rows::<T, SIZE>(p, edge, bd);
+    } else {
+        filter_columns::<T, SIZE, CELLS>(p, edge, bd);
+    }
 }
 
 /// Filters an edge.
@@ -191,9 +157,9 @@ pub fn filter_edge<T: Pixel>(p: &mut PlaneRegionMut<'_, T>, edge: Edge, bd: usiz
     ensures range { KeepsDepth (2 ^ bd) (numbers_under T.number p.old) (numbers_under T.number p.new) }
 {
     match edge.size {
-        4 => filter_sized::<T, 4>(p, edge, bd),
-        6 => filter_sized::<T, 6>(p, edge, bd),
-        8 => filter_sized::<T, 8>(p, edge, bd),
-        _ => filter_sized::<T, 14>(p, edge, bd),
+        4 => filter_sized::<T, 4, 16>(p, edge, bd),
+        6 => filter_sized::<T, 6, 24>(p, edge, bd),
+        8 => filter_sized::<T, 8, 32>(p, edge, bd),
+        _ => filter_sized::<T, 14, 56>(p, edge, bd),
     }
 }

@@ -5,6 +5,7 @@
 //! by edge in two whole passes, first all vertical edges, then all horizontal ones.
 #![tactic(auto)]
 
+mod columns;
 mod edge;
 mod frame;
 mod grid;
