@@ -1,4 +1,4 @@
-use Rattle.std.proofs.Common.{◌≡◌, ℕ, ℤ, pos, ◌+ℤ◌, zero, suc, ◌+◌, ◌<◌, Bool, true, false, inl, inr, arith, refl, add-one}
+use Rattle.std.proofs.Common.{◌≡◌, ℕ, ℤ, pos, ◌+ℤ◌, zero, suc, ◌+◌, ◌<◌, Bool, true, false, ◌&&◌, inl, inr, arith, refl, add-one}
 use Rattle.std.proofs.lemmas.Bool.{cases_eq}
 use Rattle.std.proofs.lemmas.Int.{to_z-of_z}
 use Rattle.av1_deblock.specs.Line.{all_below, sum_below}
@@ -27,6 +27,20 @@ sum_below_none f = refl
 pub sum_below_more : (k : ℕ) (f : ℕ → ℤ) → sum_below (k + 1) f ≡ sum_below k f +ℤ f k
 unfolding sum_below
 sum_below_more k f = rw add-one refl
+
+pub three_below : (f : ℕ → Bool) → all_below 3 f ≡ (f 0 && f 1 && f 2)
+unfolding all_below
+three_below f = at (f 0) (f 1) (f 2)
+  where
+    at : (a b c : Bool) → (((true && a) && b) && c) ≡ (a && b && c)
+    at true true true = refl
+    at true true false = refl
+    at true false true = refl
+    at true false false = refl
+    at false true true = refl
+    at false true false = refl
+    at false false true = refl
+    at false false false = refl
 
 pub ruleset sums = (sum_below_none, sum_below_more, to_z-of_z)
 

@@ -7,3 +7,4 @@ pub mod Frames
 pub mod Laws
 pub mod Runs
 pub mod Columns
+pub mod Eight

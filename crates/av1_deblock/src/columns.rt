@@ -1,4 +1,4 @@
-ghost use Rattle.std.specs.Prelude.{◌≡◌, ◌+◌, ◌*◌, ◌<◌, ◌≤◌, ◌^◌, length, take, true, false};
+ghost use Rattle.std.specs.Prelude.{◌≡◌, ◌+◌, ◌*◌, ◌<◌, ◌≤◌, ◌^◌, ◌-◌, length, take, true, false};
 ghost use Rattle.av1_plane.specs.Numbers.{Below};
 ghost use Rattle.av1_plane.specs.Region.{numbers_under, first_place, row_step, IsSamePart};
 ghost use Rattle.av1_deblock.specs.Line.{IsSize, IsDepth};
@@ -7,7 +7,8 @@ ghost use Rattle.av1_deblock.specs.Columns.{column, with_column, HoldsLines, Has
 ghost use Rattle.av1_deblock.specs.Passes.{with_edge, EdgeBelow, KeepsDepth, HasEdge};
 
 use crate::edge::Edge;
-use crate::line::filter_numbers;
+use crate::eight::filter_eight_at;
+use crate::line::{filter_numbers, scale_of};
 use crate::sample::{read_run, write_run};
 use av1_plane::{Pixel, PlaneRegionMut};
 
@@ -107,10 +108,9 @@ fn filter_column<const SIZE: usize>(cells: &mut [i32], k: usize, level: usize, b
     filter_column_by(cells, k, &mut line, level, bd)
 }
 
-// The four lines filtered, or false where all stay as they are.
 #[inline(always)]
 #[tactic(auto, using(crate::proofs::SideBySide::filters))]
-fn filter_cells<const SIZE: usize>(cells: &mut [i32], level: usize, bd: usize) -> bool
+fn filter_each<const SIZE: usize>(cells: &mut [i32], level: usize, bd: usize) -> bool
     requires size { IsSize SIZE }
     requires cells { length cells.old ≡ 4 * SIZE }
     requires level { level ≤ 63 }
@@ -127,6 +127,46 @@ fn filter_cells<const SIZE: usize>(cells: &mut [i32], level: usize, bd: usize) -
         }
     }
     moved
+}
+
+// Lines of eight samples, four at once.
+#[inline(always)]
+#[tactic(auto, using(crate::proofs::SideBySide::filters))]
+fn filter_eights(cells: &mut [i32], level: u32, scale: u32, bd: usize)
+    requires cells { length cells.old ≡ 32 }
+    requires level { level ≤ 63 }
+    requires depth { IsDepth bd }
+    requires scale { scale ≡ 2 ^ (bd - 8) }
+    requires low { 1 ≤ scale }
+    requires high { scale ≤ 16 }
+    requires bound { 256 * scale ≡ 2 ^ bd }
+    requires range { Below (256 * scale) cells.old }
+    ensures value { HasFiltered bd 8 level 4 cells.old cells.new }
+    ensures range { Below (256 * scale) cells.new }
+{
+    for k in 0..4 {
+        filter_eight_at(cells, k, level, scale);
+    }
+}
+
+// The four lines filtered, or false where all stay as they are.
+#[inline(always)]
+fn filter_cells<const SIZE: usize>(cells: &mut [i32], level: usize, bd: usize) -> bool
+    requires size { IsSize SIZE }
+    requires cells { length cells.old ≡ 4 * SIZE }
+    requires level { level ≤ 63 }
+    requires depth { IsDepth bd }
+    requires range { Below (2 ^ bd) cells.old }
+    ensures value { HasFiltered bd SIZE level 4 cells.old cells.new }
+    ensures range { Below (2 ^ bd) cells.new }
+    ensures same { result ≡ false → cells.new ≡ cells.old }
+{
+    if SIZE != 8 {
+        return filter_each::<SIZE>(cells, level, bd);
+    }
+    let scale = scale_of(bd) as u32;
+    filter_eights(cells, level as u32, scale, bd);
+    true
 }
 
 // By way of `cells`.

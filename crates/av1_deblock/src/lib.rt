@@ -7,6 +7,7 @@
 
 mod columns;
 mod edge;
+mod eight;
 mod frame;
 mod grid;
 pub mod laws;
