@@ -20,7 +20,7 @@ fn gather_columns<T: Pixel>(p: &PlaneRegionMut<'_, T>, edge: Edge, size: usize, 
     requires direction { edge.vertical ≡ false }
     requires size { size ≡ edge.size }
     requires cells { length cells.old ≡ 4 * size }
-    ensures { HoldsLines (first_place p.now) (row_step p.now) (numbers_under T.number p.now) edge size cells.new }
+    ensures { HoldsLines (first_place p.now) (row_step p.now) (numbers_under T.number p.now) edge size 4 cells.new }
 {
     let _rows = p.rect().height;
     for j in 0..size {
@@ -38,7 +38,7 @@ fn scatter_columns<T: Pixel>(p: &mut PlaneRegionMut<'_, T>, edge: Edge, size: us
     requires cells { length cells.now ≡ 4 * size }
     requires range { Below T.limit cells.now }
     ensures part { IsSamePart p.old p.new }
-    ensures value { HasColumns (first_place p.old) (row_step p.old) edge size (numbers_under T.number p.old) cells.now (numbers_under T.number p.new) }
+    ensures value { HasColumns (first_place p.old) (row_step p.old) edge size 4 (numbers_under T.number p.old) cells.now (numbers_under T.number p.new) }
 {
     let _rows = p.rect().height;
     for j in 0..size {
@@ -67,6 +67,49 @@ fn put_column(cells: &mut [i32], k: usize, line: &[i32])
 {
     for j in 0..line.len() {
         cells[4 * j + k] = line[j];
+    }
+}
+
+// Reads the four lines of a vertical edge, by way of `line`.
+#[inline(always)]
+#[tactic(auto, using(crate::proofs::SideBySide::gathers))]
+fn gather_rows<T: Pixel>(p: &PlaneRegionMut<'_, T>, edge: Edge, line: &mut [i32], cells: &mut [i32])
+    requires edge { HasEdge p.now edge }
+    requires direction { edge.vertical ≡ true }
+    requires size { length line.old ≡ edge.size }
+    requires cells { length cells.old ≡ 4 * edge.size }
+    ensures { HoldsLines (first_place p.now) (row_step p.now) (numbers_under T.number p.now) edge edge.size 4 cells.new }
+{
+    let _rows = p.rect().height;
+    let size = line.len();
+    for k in 0..4 {
+        read_run(p, edge.x, edge.y + k, line, 0, size);
+        put_column(cells, k, line);
+    }
+}
+
+// Writes them back.
+#[inline(always)]
+#[tactic(auto, using(crate::proofs::SideBySide::scatters))]
+fn scatter_rows<T: Pixel>(
+    p: &mut PlaneRegionMut<'_, T>,
+    edge: Edge,
+    line: &mut [i32],
+    cells: &[i32],
+)
+    requires edge { HasEdge p.old edge }
+    requires direction { edge.vertical ≡ true }
+    requires size { length line.old ≡ edge.size }
+    requires cells { length cells.now ≡ 4 * edge.size }
+    requires range { Below T.limit cells.now }
+    ensures part { IsSamePart p.old p.new }
+    ensures value { HasColumns (first_place p.old) (row_step p.old) edge edge.size 4 (numbers_under T.number p.old) cells.now (numbers_under T.number p.new) }
+{
+    let _rows = p.rect().height;
+    let size = line.len();
+    for k in 0..4 {
+        take_column(cells, k, line);
+        write_run(p, edge.x, edge.y + k, line, 0, size);
     }
 }
 
@@ -217,4 +260,57 @@ pub fn filter_columns<T: Pixel, const SIZE: usize, const CELLS: usize>(
 {
     let mut cells = [0; CELLS];
     filter_columns_by::<T, SIZE>(p, edge, bd, &mut cells);
+}
+
+// By way of `line` and `cells`.
+#[inline(always)]
+#[tactic(auto, using(crate::proofs::SideBySide::lines))]
+fn filter_rows_by<T: Pixel, const SIZE: usize>(
+    p: &mut PlaneRegionMut<'_, T>,
+    edge: Edge,
+    bd: usize,
+    line: &mut [i32],
+    cells: &mut [i32],
+)
+    requires edge { HasEdge p.old edge }
+    requires direction { edge.vertical ≡ true }
+    requires sound { IsSound edge }
+    requires size { edge.size ≡ SIZE }
+    requires line { length line.old ≡ edge.size }
+    requires cells { length cells.old ≡ 4 * SIZE }
+    requires depth { IsDepth bd }
+    requires limit { 2 ^ bd ≤ T.limit }
+    requires range { EdgeBelow (2 ^ bd) (first_place p.old) (row_step p.old) edge (numbers_under T.number p.old) }
+    ensures part { IsSamePart p.old p.new }
+    ensures value { numbers_under T.number p.new ≡ with_edge bd (first_place p.old) (row_step p.old) (numbers_under T.number p.old) edge }
+    ensures range { KeepsDepth (2 ^ bd) (numbers_under T.number p.old) (numbers_under T.number p.new) }
+{
+    gather_rows(p, edge, line, cells);
+    if filter_cells::<SIZE>(cells, edge.level, bd) {
+        scatter_rows(p, edge, line, cells);
+    }
+}
+
+/// Filters a vertical edge, whose four lines have `CELLS` samples.
+#[inline(always)]
+pub fn filter_rows<T: Pixel, const SIZE: usize, const CELLS: usize>(
+    p: &mut PlaneRegionMut<'_, T>,
+    edge: Edge,
+    bd: usize,
+)
+    requires edge { HasEdge p.old edge }
+    requires direction { edge.vertical ≡ true }
+    requires sound { IsSound edge }
+    requires size { edge.size ≡ SIZE }
+    requires cells { CELLS ≡ 4 * SIZE }
+    requires depth { IsDepth bd }
+    requires limit { 2 ^ bd ≤ T.limit }
+    requires range { EdgeBelow (2 ^ bd) (first_place p.old) (row_step p.old) edge (numbers_under T.number p.old) }
+    ensures part { IsSamePart p.old p.new }
+    ensures value { numbers_under T.number p.new ≡ with_edge bd (first_place p.old) (row_step p.old) (numbers_under T.number p.old) edge }
+    ensures range { KeepsDepth (2 ^ bd) (numbers_under T.number p.old) (numbers_under T.number p.new) }
+{
+    let mut line = [0; SIZE];
+    let mut cells = [0; CELLS];
+    filter_rows_by::<T, SIZE>(p, edge, bd, &mut line, &mut cells);
 }
