@@ -8,6 +8,7 @@ ghost use Rattle.av1_deblock.specs.Passes.{with_edge, EdgeBelow, KeepsDepth, Has
 
 use crate::edge::Edge;
 use crate::eight::filter_eight_at;
+use crate::four::filter_four_at;
 use crate::line::{filter_numbers, scale_of};
 use crate::sample::{read_run, write_run};
 use av1_plane::{Pixel, PlaneRegionMut};
@@ -192,6 +193,26 @@ fn filter_eights(cells: &mut [i32], level: u32, scale: u32, bd: usize)
     }
 }
 
+// Lines of four samples, four at once.
+#[inline(always)]
+#[tactic(auto, using(crate::proofs::SideBySide::filters))]
+fn filter_fours(cells: &mut [i32], level: u32, scale: u32, bd: usize)
+    requires cells { length cells.old ≡ 16 }
+    requires level { level ≤ 63 }
+    requires depth { IsDepth bd }
+    requires scale { scale ≡ 2 ^ (bd - 8) }
+    requires low { 1 ≤ scale }
+    requires high { scale ≤ 16 }
+    requires bound { 256 * scale ≡ 2 ^ bd }
+    requires range { Below (256 * scale) cells.old }
+    ensures value { HasFiltered bd 4 level 4 cells.old cells.new }
+    ensures range { Below (256 * scale) cells.new }
+{
+    for k in 0..4 {
+        filter_four_at(cells, k, level, scale);
+    }
+}
+
 // The four lines filtered, or false where all stay as they are.
 #[inline(always)]
 fn filter_cells<const SIZE: usize>(cells: &mut [i32], level: usize, bd: usize) -> bool
@@ -204,11 +225,12 @@ fn filter_cells<const SIZE: usize>(cells: &mut [i32], level: usize, bd: usize) -
     ensures range { Below (2 ^ bd) cells.new }
     ensures same { result ≡ false → cells.new ≡ cells.old }
 {
-    if SIZE != 8 {
-        return filter_each::<SIZE>(cells, level, bd);
-    }
     let scale = scale_of(bd) as u32;
-    filter_eights(cells, level as u32, scale, bd);
+    match SIZE {
+        4 => filter_fours(cells, level as u32, scale, bd),
+        8 => filter_eights(cells, level as u32, scale, bd),
+        _ => return filter_each::<SIZE>(cells, level, bd),
+    }
     true
 }
 
