@@ -101,5 +101,3 @@ module _ (p : Parameters) (h : Header) (t : TilingInfo) (same : p ≡ frame_para
 
   pub all_rows : IsHeader h → HasTiling h t → (tile_blocks p.sequence.tiling 0).height ≡ p.h_in_b
   all_rows right e = subst (λ (q : Parameters). (tile_blocks q.sequence.tiling 0).height ≡ q.h_in_b) (sym same) (height_of h t right built e)
-
-pub ruleset begins = (frame_made, frame_built, source_made, all_columns, all_rows)

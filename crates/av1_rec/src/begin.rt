@@ -56,22 +56,22 @@ pub fn frame_invariants<T>(header: &Header, tiling: TilingInfo) -> FrameInvarian
 }
 
 /// The state that coding a header's frame begins with. The half and the quarter plane are empty.
-pub fn start_state<T: Pixel>(
+pub fn start_state<T: Pixel + Drop>(
     alloc: Global,
     fi: &FrameInvariants<T>,
     header: &Header,
-    source: &Three<Vec<Vec<T>>>,
+    source: Three<Vec<Vec<T>>>,
 ) -> Result<FrameState<T>, OutOfMemory>
     requires frame { IsFrame T.limit (parameters fi.now) }
     requires header { parameters fi.now ≡ frame_parameters header.now fi.now.sequence.tiling }
-    requires picture { HasPicture header.now.format (said_planes T.number source.now) }
-    requires input { IsInputFor (parameters fi.now) (source_frame header.now.format (said_planes T.number source.now)) }
+    requires picture { HasPicture header.now.format (said_planes T.number source) }
+    requires input { IsInputFor (parameters fi.now) (source_frame header.now.format (said_planes T.number source)) }
     requires shift { header.now.deblock.block_delta_shift ≤ 3 }
     ensures start { IfOk result (λ fs. view_state T.number fs
-        ≡ start_state header.now fi.now.sequence.tiling (said_planes T.number source.now)) }
+        ≡ start_state header.now fi.now.sequence.tiling (said_planes T.number source)) }
     ensures made_for { IfOk result (λ fs. IsStateFor (parameters fi.now) (view_state T.number fs)) }
 {
-    let input = Arc::new(alloc, source_frame(alloc, &header.format, source)?)?;
+    let input = Arc::new(alloc, source_frame(alloc, &header.format, &source)?)?;
     let half = Arc::new(alloc, Plane::new(alloc, 0, 0, 0, 0, 0, 0)?)?;
     let quarter = Arc::new(alloc, Plane::new(alloc, 0, 0, 0, 0, 0, 0)?)?;
     let mut fs = FrameState::with_source(alloc, fi, input, half, quarter)?;

@@ -155,7 +155,6 @@ fn tiling_of(header: &Header) -> Option<TilingInfo>
 }
 
 // The report of what the recorded results make of a text's frame.
-#[tactic(auto, using(crate::proofs::Begins::begins))]
 fn coded_report<R: Threads + Sync, G: Gate>(
     rt: &R,
     alloc: Global,
@@ -182,7 +181,7 @@ fn coded_report<R: Threads + Sync, G: Gate>(
         tiles,
     } = text;
     let fi = frame_invariants(&header, tiling);
-    let mut fs = start_state(alloc, &fi, &header, &source)?;
+    let mut fs = start_state(alloc, &fi, &header, source)?;
     let mut blocks = FrameBlocks::new(alloc, fi.w_in_b, fi.h_in_b)?;
     let tiles = recorded_tiles(alloc, &fi, tiles)?;
     let coder = RecordedCoder { tiling, tiles };
