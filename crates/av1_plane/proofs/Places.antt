@@ -23,9 +23,11 @@ rest_fits row column width height step rows xs across down all =
 pub stored_run : (origin : ℕ) (place : ℤ) (n limit : ℕ) → pos 0 ≤ℤ (pos origin +ℤ place) → (pos origin +ℤ place +ℤ pos n) ≤ℤ pos limit → stored_at origin place + n ≤ limit
 stored_run origin place n limit low high = omega (arith, ints)
 
+-- the columns of a rectangle end inside the stored row
 pub rect_columns : (cfg : PlaneConfig) (rect : Rect) → IsInPlane cfg rect → stored_at cfg.xorigin rect.x + rect.width ≤ cfg.stride
 rect_columns cfg rect within = stored_run cfg.xorigin rect.x rect.width cfg.stride within.left within.right
 
+-- its rows end inside the stored rows
 pub rect_rows : (cfg : PlaneConfig) (rect : Rect) → IsInPlane cfg rect → stored_at cfg.yorigin rect.y + rect.height ≤ cfg.alloc_height
 rect_rows cfg rect within = stored_run cfg.yorigin rect.y rect.height cfg.alloc_height within.top within.bottom
 
@@ -63,6 +65,12 @@ part_end start row column width height step rows columns n across down all =
 pub part_row : (start row height step rows columns n : ℕ) → row + height ≤ rows → 0 < height → start + rows * step + columns ≤ n + step → start + row * step + columns ≤ n
 part_row start row height step rows columns n down some all =
     let products : (row + 1) * step ≤ rows * step = mul-le (row + 1) step rows step (omega arith) (omega arith) in
+    omega arith
+
+-- so many rows of a region lie in the plane, the last one up to its last sample
+pub band_fits : (start y more height step width n : ℕ) → y + more + 1 ≤ height → start + height * step + width ≤ n + step → start + y * step + (more * step + width) ≤ n
+band_fits start y more height step width n within all =
+    let products : (y + more + 1) * step ≤ height * step = mul-le (y + more + 1) step height step within (omega arith) in
     omega arith
 
 pub ruleset signed = (to_z-of_z)

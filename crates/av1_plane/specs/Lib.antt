@@ -11,7 +11,9 @@ pub mod Reading
 pub mod Region
 pub mod Regions
 pub mod RowsMut
+pub mod Runs
 pub mod Sampling
+pub mod Slices
 pub mod Three
 pub mod Tiles
 pub mod Windows

@@ -38,21 +38,23 @@ pub(crate) fn start_of(cfg: &PlaneConfig, rect: &Rect) -> usize
     requires stored { cfg.now.stride * cfg.now.alloc_height < 2 ^ 64 }
     ensures value { result ≡ rect_start cfg.now rect.now }
     ensures wide { rect.now.width ≤ cfg.now.stride }
-    ensures fits { result + rect.now.height * cfg.now.stride + rect.now.width ≤ cfg.now.stride * cfg.now.alloc_height + cfg.now.stride }
+    ensures fits { result + rect.now.height * cfg.now.stride + rect.now.width
+        ≤ cfg.now.stride * cfg.now.alloc_height + cfg.now.stride }
 {
     let row = stored_row(cfg, rect);
     let column = stored_column(cfg, rect);
     row * cfg.stride + column
 }
 
-// The same, or 0 where it has none.
+// Where the rectangle's first sample stands, or 0 where it has no row.
 #[tactic(auto, using(crate::proofs::Places::in_plane))]
 pub(crate) fn first_place_of(cfg: &PlaneConfig, rect: &Rect) -> usize
     requires inside { IsInPlane cfg.now rect.now }
     requires stored { cfg.now.stride * cfg.now.alloc_height < 2 ^ 64 }
     ensures value { 0 < rect.now.height → result ≡ rect_start cfg.now rect.now }
     ensures wide { rect.now.width ≤ cfg.now.stride }
-    ensures fits { result + rect.now.height * cfg.now.stride + rect.now.width ≤ cfg.now.stride * cfg.now.alloc_height + cfg.now.stride }
+    ensures fits { result + rect.now.height * cfg.now.stride + rect.now.width
+        ≤ cfg.now.stride * cfg.now.alloc_height + cfg.now.stride }
 {
     if rect.height == 0 {
         return 0;
@@ -81,7 +83,8 @@ pub(crate) fn samples_from<'a, T>(samples: &'a [T], cfg: &PlaneConfig, rect: &Re
     requires inside { IsInPlane cfg.now rect.now }
     requires stored { length samples.now ≡ cfg.now.stride * cfg.now.alloc_height }
     ensures value { result.now ≡ drop (rect_start cfg.now rect.now) samples.now }
-    ensures fits { rect.now.height * cfg.now.stride + rect.now.width ≤ length result.now + cfg.now.stride }
+    ensures fits { rect.now.height * cfg.now.stride + rect.now.width
+        ≤ length result.now + cfg.now.stride }
 {
     let _length = samples.len();
     let row = stored_row(cfg, rect);
@@ -101,7 +104,8 @@ pub(crate) fn samples_of_part<'a, T>(
     requires stored { whole.now.height * step + whole.now.width ≤ length samples.now + step }
     requires some_row { 0 < whole.now.height }
     requires inside { IsWithin part.now whole.now }
-    ensures value { result.now ≡ drop (unsigned_abs part.now.y * step + unsigned_abs part.now.x) samples.now }
+    ensures value { result.now
+        ≡ drop (unsigned_abs part.now.y * step + unsigned_abs part.now.x) samples.now }
     ensures fits { part.now.height * step + part.now.width ≤ length result.now + step }
     ensures narrow { part.now.width ≤ step }
 {
@@ -124,7 +128,8 @@ pub(crate) fn part_place(
     requires stored { start + whole.now.height * step + whole.now.width ≤ count + step }
     requires some_row { 0 < whole.now.height }
     requires inside { IsWithin part.now whole.now }
-    ensures value { 0 < part.now.height → result ≡ spot start step (unsigned_abs part.now.x) (unsigned_abs part.now.y) }
+    ensures value { 0 < part.now.height
+        → result ≡ spot start step (unsigned_abs part.now.x) (unsigned_abs part.now.y) }
     ensures fits { result + part.now.height * step + part.now.width ≤ count + step }
     ensures narrow { part.now.width ≤ step }
 {
@@ -189,7 +194,7 @@ pub(crate) fn tile_rect_of(rect: &Rect) -> TileRect
     }
 }
 
-// The samples from that one on; none past the end.
+// The samples from place `start` on; none past the end.
 pub(crate) fn tail<T>(samples: &[T], start: usize) -> &[T]
     ensures { result.now ≡ drop start samples.now }
 {
@@ -228,9 +233,9 @@ pub(crate) fn rest_of_row<'a, T>(
     &samples[start..start + (cfg.stride - column)]
 }
 
-// The samples from that one on, for writing; none past the end.
-pub(crate) fn tail_mut<T>(samples: &mut Vec<T>, start: usize) -> &mut [T]
-    ensures { result.now ≡ drop start samples.old.items }
+// The samples from place `start` on, for writing; none past the end.
+pub(crate) fn tail_mut<T>(samples: &mut [T], start: usize) -> &mut [T]
+    ensures { result.now ≡ drop start samples.old }
 {
     let from = start.min(samples.len());
     &mut samples[from..]

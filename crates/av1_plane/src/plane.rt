@@ -4,7 +4,7 @@ use crate::error::OutOfMemory;
 use crate::offset::PlaneOffset;
 use crate::pad::{pad_samples, visible_side};
 use crate::pixel::Pixel;
-use crate::place::{rest_of_row, stored_place};
+use crate::place::{rest_of_row, stored_place, tail_mut};
 use crate::plane_slice::PlaneSlice;
 use std::alloc::Global;
 
@@ -39,7 +39,11 @@ pub struct Plane<T> {
 impl<T: Pixel> Plane<T> {
     ghost use Rattle.av1_plane.specs.Layout.{plane_layout, CanPad};
     ghost use Rattle.std.specs.Prelude.{◌+ℤ◌, ◌≤ℤ◌, ◌<ℤ◌};
-    ghost use Rattle.av1_plane.specs.Place.{stored_at, row_rest, IsStoredPlace};
+    ghost use Rattle.av1_plane.specs.Place.{IsStoredPlace};
+    ghost use Rattle.av1_plane.specs.Slices.{row_of};
+    ghost use Rattle.av1_plane.specs.Lending.{LendsPlaneRun};
+    ghost use Rattle.std.specs.Prelude.{take, drop};
+    ghost use Rattle.std.specs.Borrow.{sem};
     ghost use Rattle.av1_plane.specs.Planes.{IsZeroed, SamePlane, IsPaddedPlane};
 
     /// A plane of zeros with a margin of `xpad` columns and `ypad` rows on each side.
@@ -110,10 +114,36 @@ impl<T: Pixel> Plane<T> {
     pub fn row(&self, y: isize) -> &[T]
         requires top { pos 0 ≤ℤ (pos self.now.cfg.yorigin +ℤ y) }
         requires bottom { (pos self.now.cfg.yorigin +ℤ y) <ℤ pos self.now.cfg.alloc_height }
-        ensures { result.now ≡ row_rest self.now.cfg self.now.samples.items (stored_at self.now.cfg.yorigin y) self.now.cfg.xorigin }
+        ensures { result.now ≡ row_of self.now y }
     {
         let row = stored_place(self.cfg.yorigin, y, self.cfg.alloc_height);
         rest_of_row(&self.samples, &self.cfg, row, self.cfg.xorigin)
+    }
+
+    // `count` samples from place `from` on, for writing.
+    pub(crate) fn run_mut(&mut self, from: usize, count: usize) -> &mut [T]
+        requires { from + count ≤ length self.old.samples.items }
+        ensures* lends { sem 𝓛 (LendsPlaneRun T.row self.entry result from) }
+        ensures run { result.now ≡ take count (drop from self.old.samples.items) }
+    {
+        let _length = self.samples.len();
+        self.samples.slice_mut(from..from + count)
+    }
+
+    // All samples, for writing.
+    pub(crate) fn all_mut(&mut self) -> &mut [T]
+        ensures* lends { sem 𝓛 (LendsPlaneRun T.row self.entry result 0) }
+        ensures all { result.now ≡ self.old.samples.items }
+    {
+        let n = self.samples.len();
+        self.samples.slice_mut(0..n)
+    }
+
+    // The samples from place `start` on, for writing; none past the end.
+    pub(crate) fn rest_mut(&mut self, start: usize) -> &mut [T]
+        ensures { result.now ≡ drop start self.old.samples.items }
+    {
+        tail_mut(self.samples.as_mut_slice(), start)
     }
 
     /// Spreads the picture of a `w` by `h` frame over all stored samples: each becomes the picture's
@@ -128,13 +158,9 @@ impl<T: Pixel> Plane<T> {
     }
 }
 
-// So many samples, all zero.
+// `count` samples, all zero.
 fn zeros<T: Pixel>(alloc: Global, count: usize) -> Result<Vec<T>, OutOfMemory>
     ensures { IfOk result (λ v. map T.number v.items ≡ replicate count (pos 0)) }
 {
-    let mut samples = Vec::with_capacity(alloc, count)?;
-    while samples.len() < count {
-        samples.push(T::from_i32(0))?;
-    }
-    Ok(samples)
+    Ok(vec![in alloc; T::from_i32(0); count]?)
 }

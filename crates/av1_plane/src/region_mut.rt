@@ -1,10 +1,9 @@
-ghost use Rattle.std.specs.Prelude.{◌≡◌, ◌+◌, ◌*◌, ◌<◌, ◌≤◌, length, take, drop, []};
-ghost use Rattle.std.specs.Borrow.{Lends, Array, sem};
-ghost use mir.Syntax.{named};
-ghost use Rattle.av1_plane.specs.Region.{spot, samples_under, first_place, row_step, area, IsStored, with_run};
-ghost use Rattle.av1_plane.specs.Place.{rect_start, origin_place, from_origin, IsInPlane, no_area};
-ghost use Rattle.av1_plane.specs.Reading.{samples_seen, step_seen, area_seen};
-ghost use Rattle.av1_plane.specs.contracts.region_mut.PlaneRegionMut as region;
+ghost use Rattle.std.specs.Prelude.{◌≡◌, ◌+◌, ◌<◌, ◌≤◌};
+ghost use Rattle.std.specs.Borrow.{sem};
+ghost use Rattle.av1_plane.specs.Lending.{LendsRun};
+ghost use Rattle.av1_plane.specs.Place.{no_area};
+ghost use Rattle.av1_plane.specs.Region.{samples_under, first_place, row_step, row_place, row_under, band_under, area, IsStored};
+ghost use Rattle.av1_plane.specs.Regions.{StoresRect, LendsPlane, LendsRect};
 
 use crate::area::Area;
 use crate::error::OutOfMemory;
@@ -28,117 +27,109 @@ use std::alloc::Global;
 /// Row `i` is the `width` samples from place `start + i * step` on.
 #[derive(Debug, Drop)]
 pub struct PlaneRegionMut<'a, T> {
-    samples: &'a mut Vec<T>,
+    plane: &'a mut Plane<T>,
     start: usize,
-    step: usize,
-    pub plane_cfg: &'a PlaneConfig,
+    pub plane_cfg: PlaneConfig,
     rect: Rect,
 }
 
 impl<'a, T: Pixel> PlaneRegionMut<'a, T> {
-    ghost use Rattle.std.specs.Prelude.{◌-◌, ◌^◌, ◌⊎◌, ◌↔◌, IsTrue, IfOk, pos, neg_ℤ, ◌<ℤ◌, unsigned_abs};
-    ghost use Rattle.av1_plane.specs.Area.{IsNearRect, IsOnBlock, IsOnSuperBlock};
-    ghost use Rattle.av1_plane.specs.Offset.{sample_sum, block_sum, superblock_sum, block_at, superblock_at};
+    ghost use Rattle.std.specs.Prelude.{◌^◌, ◌↔◌, IsTrue, IfOk, pos, neg_ℤ, ◌<ℤ◌};
+    ghost use Rattle.av1_plane.specs.Area.{HasNoSample, IsNearRect};
+    ghost use Rattle.av1_plane.specs.Offset.{sample_sum, block_sum, superblock_sum};
     ghost use Rattle.av1_plane.specs.Planes.{IsCopyOf};
-    ghost use Rattle.av1_plane.specs.Reading.{seen_as, seen_under, rows_of, part_of, HoldsArea, IsPartOf};
-    ghost use Rattle.av1_plane.specs.Windows.{windows_down, windows_across};
+    ghost use Rattle.av1_plane.specs.Reading.{seen_as, seen_under, rows_of, first_sample, first_block, first_superblock, StartsOnBlock, StartsOnSuperBlock, CanCut, IsAreaOf};
+    ghost use Rattle.av1_plane.specs.Windows.{all_down, all_across};
 
-    /// The region of that rectangle whose row `i` is the `width` samples from entry
-    /// `start + i * step` of the vector.
-    pub fn from_part(
-        samples: &'a mut Vec<T>,
+    // The region of that rectangle whose row `i` is the `width` samples from place `start` on, a
+    // stride further for each row.
+    fn at(
+        plane: &'a mut Plane<T>,
         start: usize,
-        step: usize,
-        plane_cfg: &'a PlaneConfig,
+        plane_cfg: PlaneConfig,
         rect: Rect,
     ) -> PlaneRegionMut<'a, T>
-        ensures name { result.samples.ghost_name ≡ samples.entry.ghost_name }
-        ensures samples { result.samples.now ≡ samples.old }
+        ensures name { result.plane.ghost_name ≡ plane.entry.ghost_name }
+        ensures plane { result.plane.now ≡ plane.old }
         ensures start { first_place result ≡ start }
-        ensures step { row_step result ≡ step }
-        ensures cfg { result.plane_cfg.now ≡ plane_cfg.now }
+        ensures cfg { result.plane_cfg ≡ plane_cfg }
         ensures rect { area result ≡ rect }
     {
         PlaneRegionMut {
-            samples,
+            plane,
             start,
-            step,
             plane_cfg,
             rect,
         }
     }
 
-    /// The region without samples, over the vector of a plane of that layout.
-    pub fn empty(samples: &'a mut Vec<T>, plane_cfg: &'a PlaneConfig) -> PlaneRegionMut<'a, T>
-        ensures name { result.samples.ghost_name ≡ samples.entry.ghost_name }
-        ensures samples { result.samples.now ≡ samples.old }
-        ensures start { first_place result ≡ 0 }
-        ensures step { row_step result ≡ plane_cfg.now.stride }
-        ensures cfg { result.plane_cfg.now ≡ plane_cfg.now }
-        ensures rect { area result ≡ no_area }
-    {
-        let step = plane_cfg.stride;
-        PlaneRegionMut::from_part(samples, 0, step, plane_cfg, Rect::default())
-    }
-
-    /// The region of a rectangle of the plane with that layout and those samples; empty where the
-    /// plane has a side of 0.
-    pub fn from_slice(
-        samples: &'a mut Vec<T>,
-        cfg: &'a PlaneConfig,
+    /// The samples of a part of a larger plane, which are a plane of their own, at their place in
+    /// the larger one.
+    pub fn from_part(
+        plane: &'a mut Plane<T>,
+        plane_cfg: &PlaneConfig,
         rect: Rect,
     ) -> PlaneRegionMut<'a, T>
-        requires stored { length samples.old.items ≡ cfg.now.stride * cfg.now.alloc_height }
-        requires inside { 0 < cfg.now.width → 0 < cfg.now.height → IsInPlane cfg.now rect }
-        ensures name { result.samples.ghost_name ≡ samples.entry.ghost_name }
-        ensures samples { result.samples.now ≡ samples.old }
-        ensures start { 0 < cfg.now.width → 0 < cfg.now.height → 0 < rect.height → first_place result ≡ rect_start cfg.now rect }
-        ensures step { row_step result ≡ cfg.now.stride }
-        ensures cfg { result.plane_cfg.now ≡ cfg.now }
-        ensures area { 0 < cfg.now.width → 0 < cfg.now.height → area result ≡ rect }
-        ensures no_width { cfg.now.width ≡ 0 → area result ≡ no_area }
-        ensures no_height { cfg.now.height ≡ 0 → area result ≡ no_area }
+        requires wide { rect.width ≤ plane.old.cfg.stride }
+        requires high { rect.height ≤ plane.old.cfg.alloc_height }
+        ensures name { result.plane.ghost_name ≡ plane.entry.ghost_name }
+        ensures plane { result.plane.now ≡ plane.old }
+        ensures start { first_place result ≡ 0 }
+        ensures cfg { result.plane_cfg ≡ plane_cfg.now }
+        ensures rect { area result ≡ rect }
         ensures stored { IsStored result }
     {
-        let _length = samples.len();
+        PlaneRegionMut::at(plane, 0, *plane_cfg, rect)
+    }
+
+    /// The region without samples.
+    pub fn empty(plane: &'a mut Plane<T>) -> PlaneRegionMut<'a, T>
+        ensures name { result.plane.ghost_name ≡ plane.entry.ghost_name }
+        ensures plane { result.plane.now ≡ plane.old }
+        ensures start { first_place result ≡ 0 }
+        ensures cfg { result.plane_cfg ≡ plane.old.cfg }
+        ensures rect { area result ≡ no_area }
+        ensures stored { IsStored result }
+    {
+        let cfg = plane.cfg;
+        PlaneRegionMut::at(plane, 0, cfg, Rect::default())
+    }
+
+    /// The region of a rectangle of the plane; empty where the plane has a side of 0. When it ends, the
+    /// plane is what was left under it.
+    pub fn new(plane: &'a mut Plane<T>, rect: Rect) -> PlaneRegionMut<'a, T>
+        requires inside { StoresRect plane.old.cfg rect }
+        ensures name { result.plane.ghost_name ≡ plane.entry.ghost_name }
+        ensures region { LendsRect plane.old rect result }
+    {
+        let _length = plane.samples.len();
+        let cfg = plane.cfg;
         if cfg.width == 0 || cfg.height == 0 {
-            return PlaneRegionMut::empty(samples, cfg);
+            return PlaneRegionMut::empty(plane);
         }
-        let start = first_place_of(cfg, &rect);
-        let step = cfg.stride;
-        PlaneRegionMut::from_part(samples, start, step, cfg, rect)
+        let start = first_place_of(&cfg, &rect);
+        PlaneRegionMut::at(plane, start, cfg, rect)
     }
 
-    /// The region from the origin of the plane with that layout to the end of its samples.
-    pub fn new_from_plane(samples: &'a mut Vec<T>, cfg: &'a PlaneConfig) -> PlaneRegionMut<'a, T>
-        requires stored { length samples.old.items ≡ cfg.now.stride * cfg.now.alloc_height }
-        requires wide { cfg.now.xorigin ≤ cfg.now.stride }
-        requires high { cfg.now.yorigin ≤ cfg.now.alloc_height }
-        ensures name { result.samples.ghost_name ≡ samples.entry.ghost_name }
-        ensures samples { result.samples.now ≡ samples.old }
-        ensures start { cfg.now.yorigin < cfg.now.alloc_height → first_place result ≡ origin_place cfg.now }
-        ensures step { row_step result ≡ cfg.now.stride }
-        ensures cfg { result.plane_cfg.now ≡ cfg.now }
-        ensures area { area result ≡ from_origin cfg.now }
-        ensures stored { IsStored result }
+    /// The region from the plane's origin to the end of its samples.
+    pub fn new_from_plane(plane: &'a mut Plane<T>) -> PlaneRegionMut<'a, T>
+        ensures name { result.plane.ghost_name ≡ plane.entry.ghost_name }
+        ensures region { LendsPlane plane.old result }
     {
-        let _length = samples.len();
-        let rect = whole_rect(cfg);
-        let start = first_place_of(cfg, &rect);
-        let step = cfg.stride;
-        PlaneRegionMut::from_part(samples, start, step, cfg, rect)
+        let _length = plane.samples.len();
+        let cfg = plane.cfg;
+        let rect = whole_rect(&cfg);
+        let start = first_place_of(&cfg, &rect);
+        PlaneRegionMut::at(plane, start, cfg, rect)
     }
 
-    /// The same region for reading.
+    /// The region for reading.
     pub fn as_const(&self) -> PlaneRegion<'_, T>
         requires { IsStored self.now }
-        ensures samples { samples_seen result ≡ drop (first_place self.now) (samples_under self.now) }
-        ensures step { step_seen result ≡ row_step self.now }
-        ensures cfg { result.plane_cfg.now ≡ self.now.plane_cfg.now }
-        ensures area { area_seen result ≡ area self.now }
+        ensures { seen_as result ≡ seen_under self.now }
     {
-        let seen = tail(self.samples.as_slice(), self.start);
-        PlaneRegion::from_part(seen, self.step, self.plane_cfg, self.rect)
+        let seen = tail(self.plane.samples.as_slice(), self.start);
+        PlaneRegion::from_part(seen, self.plane.cfg.stride, &self.plane_cfg, self.rect)
     }
 
     /// The rectangle, relative to the plane's origin.
@@ -152,27 +143,66 @@ impl<'a, T: Pixel> PlaneRegionMut<'a, T> {
     pub fn row(&self, y: usize) -> &[T]
         requires stored { IsStored self.now }
         requires inside { y < (area self.now).height }
-        ensures { result.now ≡ take (area self.now).width (drop (spot (first_place self.now) (row_step self.now) 0 y) (samples_under self.now)) }
+        ensures { result.now ≡ row_under self.now y }
     {
-        let from = self.start + y * self.step;
-        &self.samples[from..from + self.rect.width]
+        let from = self.start + y * self.plane.cfg.stride;
+        &self.plane.samples[from..from + self.rect.width]
     }
 
     /// Row `y`, for writing.
     pub fn row_mut<'s>(&'s mut self, y: usize) -> &'s mut [T]
         requires stored { IsStored self.old }
         requires inside { y < (area self.old).height }
-        ensures* lends { sem 𝓛 (Lends (region.the_row (record { mir = named 1; lft = [] }) T.row) (Array T.row 0) self.entry result (with_run self.old (spot (first_place self.old) (row_step self.old) 0 y))) }
-        ensures row { result.now ≡ take (area self.old).width (drop (spot (first_place self.old) (row_step self.old) 0 y) (samples_under self.old)) }
+        ensures* lends { sem 𝓛 (LendsRun T.row self.entry result (row_place self.old y)) }
+        ensures row { result.now ≡ row_under self.old y }
     {
-        let from = self.start + y * self.step;
-        let to = from + self.rect.width;
-        self.samples.slice_mut(from..to)
+        let from = self.start + y * self.plane.cfg.stride;
+        let width = self.rect.width;
+        let plane = &mut *self.plane;
+        plane.run_mut(from, width)
+    }
+
+    /// The rows from `y` up to `y + rows` as one run, for writing. Row `i` of them begins at `i` times
+    /// `between_rows`; the run ends with the last row's last sample.
+    pub fn band_mut<'s>(&'s mut self, y: usize, rows: usize) -> &'s mut [T]
+        requires stored { IsStored self.old }
+        requires some { 0 < rows }
+        requires inside { y + rows ≤ (area self.old).height }
+        ensures* lends { sem 𝓛 (LendsRun T.row self.entry result (row_place self.old y)) }
+        ensures band { result.now ≡ band_under self.old y rows }
+    {
+        let from = self.start + y * self.plane.cfg.stride;
+        let count = (rows - 1) * self.plane.cfg.stride + self.rect.width;
+        let plane = &mut *self.plane;
+        plane.run_mut(from, count)
+    }
+
+    /// All samples of the plane under the region, for writing.
+    pub fn store_mut<'s>(&'s mut self) -> &'s mut [T]
+        ensures* lends { sem 𝓛 (LendsRun T.row self.entry result 0) }
+        ensures all { result.now ≡ samples_under self.old }
+    {
+        let plane = &mut *self.plane;
+        plane.all_mut()
+    }
+
+    /// Where the first row begins in the samples that `store_mut` lends.
+    pub fn first_row(&self) -> usize
+        ensures { result ≡ first_place self.now }
+    {
+        self.start
+    }
+
+    /// How far apart the rows begin.
+    pub fn between_rows(&self) -> usize
+        ensures { result ≡ row_step self.now }
+    {
+        self.plane.cfg.stride
     }
 
     /// Whether the rectangle has no sample.
     pub fn is_null(&self) -> bool
-        ensures { IsTrue result ↔ (((area self.now).width ≡ 0) ⊎ ((area self.now).height ≡ 0)) }
+        ensures { IsTrue result ↔ HasNoSample (area self.now) }
     {
         self.rect.width == 0 || self.rect.height == 0
     }
@@ -191,7 +221,7 @@ impl<'a, T: Pixel> PlaneRegionMut<'a, T> {
         requires some { 1 ≤ h }
         requires near { IsNearRect (area self.now) }
         requires high { (area self.now).height ≤ 2 ^ 32 }
-        ensures { result ≡ windows_down ((area self.now).height + 1 - h) h (seen_under self.now) }
+        ensures { result ≡ all_down h (seen_under self.now) }
     {
         self.as_const().vert_windows(h)
     }
@@ -202,7 +232,7 @@ impl<'a, T: Pixel> PlaneRegionMut<'a, T> {
         requires some { 1 ≤ w }
         requires near { IsNearRect (area self.now) }
         requires wide { (area self.now).width ≤ 2 ^ 32 }
-        ensures { result ≡ windows_across ((area self.now).width + 1 - w) w (seen_under self.now) }
+        ensures { result ≡ all_across w (seen_under self.now) }
     {
         self.as_const().horz_windows(w)
     }
@@ -210,11 +240,8 @@ impl<'a, T: Pixel> PlaneRegionMut<'a, T> {
     /// An area of the region, for reading; empty where the region is.
     pub fn subregion(&self, part: Area) -> PlaneRegion<'_, T>
         requires stored { IsStored self.now }
-        requires inside { 0 < (area self.now).width → 0 < (area self.now).height → HoldsArea self.now.plane_cfg.now (area self.now) part }
-        ensures part { 0 < (area self.now).width → 0 < (area self.now).height → IsPartOf (seen_under self.now) (seen_as result) (part_of self.now.plane_cfg.now (area self.now) part) }
-        ensures cfg { result.plane_cfg.now ≡ self.now.plane_cfg.now }
-        ensures no_width { (area self.now).width ≡ 0 → area_seen result ≡ no_area }
-        ensures no_height { (area self.now).height ≡ 0 → area_seen result ≡ no_area }
+        requires inside { CanCut (seen_under self.now) part }
+        ensures { IsAreaOf (seen_under self.now) (seen_as result) part }
     {
         self.as_const().subregion(part)
     }
@@ -235,7 +262,7 @@ impl<'a, T: Pixel> PlaneRegionMut<'a, T> {
         requires right { tile_po.x <ℤ pos (2 ^ 32) }
         requires top { neg_ℤ (pos (2 ^ 32)) <ℤ tile_po.y }
         requires bottom { tile_po.y <ℤ pos (2 ^ 32) }
-        ensures { result ≡ sample_sum (record { x = (area self.now).x; y = (area self.now).y }) tile_po }
+        ensures { result ≡ sample_sum (first_sample (seen_under self.now)) tile_po }
     {
         let x = sum(self.rect.x, tile_po.x);
         let y = sum(self.rect.y, tile_po.y);
@@ -244,12 +271,12 @@ impl<'a, T: Pixel> PlaneRegionMut<'a, T> {
 
     /// A block of the region as one of the frame. The region starts on a block.
     pub fn to_frame_block_offset(&self, tile_bo: TileBlockOffset) -> PlaneBlockOffset
-        requires start { IsOnBlock (area self.now) self.now.plane_cfg.now.xdec self.now.plane_cfg.now.ydec }
+        requires start { StartsOnBlock (seen_under self.now) }
         requires x { tile_bo.0.x < 2 ^ 32 }
         requires y { tile_bo.0.y < 2 ^ 32 }
-        ensures { result.0 ≡ block_sum (block_at (unsigned_abs (area self.now).x) (unsigned_abs (area self.now).y) self.now.plane_cfg.now.xdec self.now.plane_cfg.now.ydec) tile_bo.0 }
+        ensures { result.0 ≡ block_sum (first_block (seen_under self.now)) tile_bo.0 }
     {
-        let cfg = self.plane_cfg;
+        let cfg = &self.plane_cfg;
         tile_rect_of(&self.rect).to_frame_block_offset(tile_bo, cfg.xdec, cfg.ydec)
     }
 
@@ -260,12 +287,13 @@ impl<'a, T: Pixel> PlaneRegionMut<'a, T> {
         tile_sbo: TileSuperBlockOffset,
         sb_size_log2: usize,
     ) -> PlaneSuperBlockOffset
-        requires start { IsOnSuperBlock (area self.now) sb_size_log2 self.now.plane_cfg.now.xdec self.now.plane_cfg.now.ydec }
+        requires start { StartsOnSuperBlock (seen_under self.now) sb_size_log2 }
         requires x { tile_sbo.0.x < 2 ^ 32 }
         requires y { tile_sbo.0.y < 2 ^ 32 }
-        ensures { result.0 ≡ superblock_sum (superblock_at (unsigned_abs (area self.now).x) (unsigned_abs (area self.now).y) sb_size_log2 self.now.plane_cfg.now.xdec self.now.plane_cfg.now.ydec) tile_sbo.0 }
+        ensures { result.0
+            ≡ superblock_sum (first_superblock (seen_under self.now) sb_size_log2) tile_sbo.0 }
     {
-        let cfg = self.plane_cfg;
+        let cfg = &self.plane_cfg;
         tile_rect_of(&self.rect).to_frame_super_block_offset(
             tile_sbo,
             sb_size_log2,
@@ -276,8 +304,8 @@ impl<'a, T: Pixel> PlaneRegionMut<'a, T> {
 
     /// The frame's block at the start of the region, which starts on a block.
     pub fn frame_block_offset(&self) -> PlaneBlockOffset
-        requires { IsOnBlock (area self.now) self.now.plane_cfg.now.xdec self.now.plane_cfg.now.ydec }
-        ensures { result.0 ≡ block_at (unsigned_abs (area self.now).x) (unsigned_abs (area self.now).y) self.now.plane_cfg.now.xdec self.now.plane_cfg.now.ydec }
+        requires { StartsOnBlock (seen_under self.now) }
+        ensures { result.0 ≡ first_block (seen_under self.now) }
     {
         self.to_frame_block_offset(TileBlockOffset(BlockOffset { x: 0, y: 0 }))
     }
