@@ -2,6 +2,8 @@ pub mod Places
 pub mod Runs
 pub mod Cuts
 pub mod CutLaws
-pub mod Changes
+pub mod FirstRows
 pub mod Related
+pub mod Computing
 pub mod Rules
+pub mod Views

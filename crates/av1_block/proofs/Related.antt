@@ -10,7 +10,7 @@ use Rattle.av1_block.specs.Each.{AreRelated}
 use Rattle.av1_block.proofs.Runs.{run_of_overwritten}
 use Rattle.av1_block.proofs.Cuts.{less_high, row_inside, length-cut_of, length-with_cut}
 use Rattle.av1_block.proofs.CutLaws.{cut_of_overwritten, with_cut_append}
-use Rattle.av1_block.proofs.Changes.{below_put}
+use Rattle.av1_block.proofs.FirstRows.{below_put}
 
 module _ {E : Type 0} (R : E → E → Type 0) where
   -- one entry more

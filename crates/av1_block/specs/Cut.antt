@@ -2,8 +2,7 @@
 use Rattle.std.specs.Prelude.{ℕ, zero, suc, ◌+◌, ◌*◌, ◌<◌, ◌≤◌, List, [], ◌++◌, length, map, take, drop}
 use Rattle.av1_plane.specs.declared.tile_rect.TileRect.{TileRect}
 use Rattle.av1_block.specs.declared.cut.Cut.{Cut}
-use Rattle.av1_block.specs.declared.table.Table.{Table}
-use Rattle.av1_block.specs.Tables.{table_entries, with_entries}
+use Rattle.av1_block.specs.Rows.{Rows, with_entries}
 
 -- the rectangle of these sides at column x of row y lies in a table of n entries, `cols` to a row
 pub record LiesIn (n cols x y width height : ℕ) : Type 0 where
@@ -53,7 +52,7 @@ AreApart a b = (u v : ℕ) → IsInside a u v → ¬ IsInside b u v
 
 -- the entries of a cut, row by row
 abbrev pub cut_entries : {E : Type 0} → Cut E → List E
-cut_entries c = table_entries c.table
+cut_entries c = c.table.entries
 
 -- where they stood
 abbrev pub cut_rect : {E : Type 0} → Cut E → TileRect
@@ -68,5 +67,5 @@ abbrev pub recut : {E : Type 0} → Cut E → List E → Cut E
 recut c entries = record c { table = with_entries c.table entries }
 
 -- the cut with another table of entries
-abbrev pub with_cut_table : {E : Type 0} → Cut E → Table E → Cut E
+abbrev pub with_cut_table : {E : Type 0} → Cut E → Rows E → Cut E
 with_cut_table c table = record c { table = table }

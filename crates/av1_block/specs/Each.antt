@@ -17,6 +17,10 @@ pub record Leaves {F : Type 0} (g : Shared F (MutBor Block × Unit {0}) (Unit {0
   pub met : g.post f (shown, tt) (tt, (left, tt))
   pub leaves : left.now ≡ after
 
+-- each call of f at a `&mut` to a block leaves `change` of it there
+abbrev pub Computes : {F : Type 0} → Shared F (MutBor Block × Unit {0}) (Unit {0} × (MutBor Block × Unit {0})) → F → (Block → Block) → Type 0
+Computes g f change = (before after : Block) → Leaves g f before after → after ≡ change before
+
 -- lists of one length, related entry by entry
 pub record AreRelated {E : Type 0} (R : E → E → Type 0) (xs ys : List E) : Type 0 where
   pub same : length ys ≡ length xs

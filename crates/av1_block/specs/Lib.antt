@@ -1,5 +1,6 @@
 pub mod Sides
 pub mod Block
+pub mod Rows
 pub mod Tables
 pub mod Rule
 pub mod Cut
@@ -7,7 +8,6 @@ pub mod Laws
 pub mod Windows
 pub mod Writing
 pub mod Motion
-pub mod Changes
-pub mod MotionViews
 pub mod Each
 pub mod Whole
+pub mod RestorationUnit

@@ -1,16 +1,14 @@
 -- Views of all of a table of blocks.
 use Rattle.std.specs.Prelude.{◌≡◌}
 use Rattle.av1_block.specs.declared.block.Block.{Block}
-use Rattle.av1_block.specs.declared.table.Table.{Table}
-use Rattle.av1_block.specs.declared.tile_blocks.TileBlocks.{TileBlocks}
-use Rattle.av1_block.specs.declared.tile_blocks_mut.TileBlocksMut.{TileBlocksMut}
-use Rattle.av1_block.specs.Tables.{table_entries, view_entries, view_step, view_x, view_y, view_cols, view_rows, view_frame_cols, view_frame_rows}
+use Rattle.av1_block.specs.Rows.{Rows}
+use Rattle.av1_block.specs.Tables.{TileBlocks, view_entries, view_step, view_x, view_y, view_cols, view_rows, view_frame_cols, view_frame_rows}
 use Rattle.av1_block.specs.Windows.{frame_window}
-use Rattle.av1_block.specs.Writing.{window, table_under, IsPlaced}
+use Rattle.av1_block.specs.Writing.{TileBlocksMut, window, table_under, IsPlaced}
 
--- for reading
-pub record ShowsTable (t : Table Block) (v : TileBlocks) : Type 0 where
-  pub entries : view_entries v ≡ table_entries t
+-- v shows all of the table, for reading
+pub record ShowsTable (t : Rows Block) (v : TileBlocks) : Type 0 where
+  pub entries : view_entries v ≡ t.entries
   pub step : view_step v ≡ t.cols
   pub x : view_x v ≡ 0
   pub y : view_y v ≡ 0
@@ -19,8 +17,8 @@ pub record ShowsTable (t : Table Block) (v : TileBlocks) : Type 0 where
   pub frame_cols : view_frame_cols v ≡ t.cols
   pub frame_rows : view_frame_rows v ≡ t.rows
 
--- for writing
-pub record LendsTable (t : Table Block) (v : TileBlocksMut) : Type 0 where
+-- v shows all of the table, for reading and writing
+pub record LendsTable (t : Rows Block) (v : TileBlocksMut) : Type 0 where
   pub table : table_under v ≡ t
   pub window : window v ≡ frame_window 0 0 t.cols t.rows t.cols t.rows
   pub placed : IsPlaced v

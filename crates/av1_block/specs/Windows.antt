@@ -14,8 +14,8 @@ cut_window rect frame_cols frame_rows =
     record { left = 0; top = 0; x = rect.x; y = rect.y; cols = rect.width; rows = rect.height; frame_cols = frame_cols; frame_rows = frame_rows }
 
 -- the part from column x of row y on, with these sides where the window has them
-abbrev pub part_of : Window → (x y cols rows : ℕ) → Window
-part_of w x y cols rows =
+abbrev pub window_part : Window → (x y cols rows : ℕ) → Window
+window_part w x y cols rows =
     record {
       left = w.left + x;
       top = w.top + y;

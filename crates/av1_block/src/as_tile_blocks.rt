@@ -5,13 +5,14 @@ use crate::tile_blocks_mut::TileBlocksMut;
 
 /// A table of blocks, seen whole.
 pub trait AsTileBlocks {
-    ghost use Rattle.av1_block.specs.declared.tile_blocks.TileBlocks.{TileBlocks};
-    ghost use Rattle.av1_block.specs.declared.tile_blocks_mut.TileBlocksMut.{TileBlocksMut};
+    ghost use Rattle.av1_block.specs.declared.block.Block.{Block};
+    ghost use Rattle.av1_block.specs.declared.tile_view.TileView.{TileView};
+    ghost use Rattle.av1_block.specs.declared.tile_view_mut.TileViewMut.{TileViewMut};
 
-    // the view of all its blocks, for reading and for writing
-    ghost shows: { Self → TileBlocks → Type 0 };
+    // The view of all its blocks, for reading and for writing.
+    ghost shows: { Self → TileView Block → Type 0 };
 
-    ghost lends: { Self → TileBlocksMut → Type 0 };
+    ghost lends: { Self → TileViewMut Block → Type 0 };
 
     /// All its blocks, for reading.
     fn as_tile_blocks(&self) -> TileBlocks<'_>

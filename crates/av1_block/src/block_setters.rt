@@ -1,33 +1,26 @@
-use crate::block::MotionVector;
+use crate::block::{Block, MotionVector};
 use crate::block_size::BlockSize;
-use crate::change::Change;
 use crate::prediction_mode::PredictionMode;
 use crate::ref_type::RefType;
-use crate::tile_blocks_mut::TileBlocksMut;
+use crate::tile_view_mut::TileViewMut;
 use crate::tx_size::TxSize;
 use av1_plane::{BlockOffset, TileBlockOffset, TileSuperBlockOffset};
 
 /// Each writes one field of every block of the size `bsize` at `bo`, where the view has it.
-impl TileBlocksMut<'_> {
+impl TileViewMut<'_, Block> {
     ghost use Rattle.std.specs.Prelude.{◌≡◌, ◌*◌, ◌<◌};
+    ghost use Rattle.av1_block.specs.Each.{Computes};
     ghost use Rattle.av1_block.specs.Sides.{block_width, block_height};
-    ghost use Rattle.av1_block.specs.Writing.{window, blocks_under, IsPlaced, IsSameView, with_each_of};
+    ghost use Rattle.av1_block.specs.Writing.{window, IsPlaced, IsSetAt};
 
     /// How the blocks are predicted.
     pub fn set_mode(&mut self, bo: TileBlockOffset, bsize: BlockSize, mode: PredictionMode)
         requires placed { IsPlaced self.old }
         requires column { bo.0.x < (window self.old).cols }
         requires row { bo.0.y < (window self.old).rows }
-        ensures same { IsSameView self.old self.new }
-        ensures placed { IsPlaced self.new }
-        ensures blocks { blocks_under self.new ≡ with_each_of self.old bo.0 (block_width bsize) (block_height bsize) (λ b. record b { mode = mode }) }
+        ensures { IsSetAt self.old self.new bo.0 bsize (λ b. record b { mode = mode }) }
     {
-        self.change_part(
-            bo.0,
-            bsize.width_mi(),
-            bsize.height_mi(),
-            Change::Mode(mode),
-        );
+        self.set_each(bo, bsize, |block| block.mode = mode);
     }
 
     /// The size, and the sides in units.
@@ -35,16 +28,16 @@ impl TileBlocksMut<'_> {
         requires placed { IsPlaced self.old }
         requires column { bo.0.x < (window self.old).cols }
         requires row { bo.0.y < (window self.old).rows }
-        ensures same { IsSameView self.old self.new }
-        ensures placed { IsPlaced self.new }
-        ensures blocks { blocks_under self.new ≡ with_each_of self.old bo.0 (block_width bsize) (block_height bsize) (λ b. record b { bsize = bsize; n4_w = block_width bsize; n4_h = block_height bsize }) }
+        ensures { IsSetAt self.old self.new bo.0 bsize
+            (λ b. record b { bsize = bsize; n4_w = block_width bsize; n4_h = block_height bsize }) }
     {
-        self.change_part(
-            bo.0,
-            bsize.width_mi(),
-            bsize.height_mi(),
-            Change::Size(bsize),
-        );
+        let n4_w = bsize.width_mi() as u8;
+        let n4_h = bsize.height_mi() as u8;
+        self.set_each(bo, bsize, |block| {
+            block.bsize = bsize;
+            block.n4_w = n4_w;
+            block.n4_h = n4_h;
+        });
     }
 
     /// The size of the transforms.
@@ -52,16 +45,9 @@ impl TileBlocksMut<'_> {
         requires placed { IsPlaced self.old }
         requires column { bo.0.x < (window self.old).cols }
         requires row { bo.0.y < (window self.old).rows }
-        ensures same { IsSameView self.old self.new }
-        ensures placed { IsPlaced self.new }
-        ensures blocks { blocks_under self.new ≡ with_each_of self.old bo.0 (block_width bsize) (block_height bsize) (λ b. record b { txsize = tx_size }) }
+        ensures { IsSetAt self.old self.new bo.0 bsize (λ b. record b { txsize = tx_size }) }
     {
-        self.change_part(
-            bo.0,
-            bsize.width_mi(),
-            bsize.height_mi(),
-            Change::Transform(tx_size),
-        );
+        self.set_each(bo, bsize, |block| block.txsize = tx_size);
     }
 
     /// Whether no coefficients are coded.
@@ -69,16 +55,9 @@ impl TileBlocksMut<'_> {
         requires placed { IsPlaced self.old }
         requires column { bo.0.x < (window self.old).cols }
         requires row { bo.0.y < (window self.old).rows }
-        ensures same { IsSameView self.old self.new }
-        ensures placed { IsPlaced self.new }
-        ensures blocks { blocks_under self.new ≡ with_each_of self.old bo.0 (block_width bsize) (block_height bsize) (λ b. record b { skip = skip }) }
+        ensures { IsSetAt self.old self.new bo.0 bsize (λ b. record b { skip = skip }) }
     {
-        self.change_part(
-            bo.0,
-            bsize.width_mi(),
-            bsize.height_mi(),
-            Change::Skip(skip),
-        );
+        self.set_each(bo, bsize, |block| block.skip = skip);
     }
 
     /// The segment.
@@ -86,16 +65,9 @@ impl TileBlocksMut<'_> {
         requires placed { IsPlaced self.old }
         requires column { bo.0.x < (window self.old).cols }
         requires row { bo.0.y < (window self.old).rows }
-        ensures same { IsSameView self.old self.new }
-        ensures placed { IsPlaced self.new }
-        ensures blocks { blocks_under self.new ≡ with_each_of self.old bo.0 (block_width bsize) (block_height bsize) (λ b. record b { segmentation_idx = idx }) }
+        ensures { IsSetAt self.old self.new bo.0 bsize (λ b. record b { segmentation_idx = idx }) }
     {
-        self.change_part(
-            bo.0,
-            bsize.width_mi(),
-            bsize.height_mi(),
-            Change::Segment(idx),
-        );
+        self.set_each(bo, bsize, |block| block.segmentation_idx = idx);
     }
 
     /// The references.
@@ -103,16 +75,9 @@ impl TileBlocksMut<'_> {
         requires placed { IsPlaced self.old }
         requires column { bo.0.x < (window self.old).cols }
         requires row { bo.0.y < (window self.old).rows }
-        ensures same { IsSameView self.old self.new }
-        ensures placed { IsPlaced self.new }
-        ensures blocks { blocks_under self.new ≡ with_each_of self.old bo.0 (block_width bsize) (block_height bsize) (λ b. record b { ref_frames = refs }) }
+        ensures { IsSetAt self.old self.new bo.0 bsize (λ b. record b { ref_frames = refs }) }
     {
-        self.change_part(
-            bo.0,
-            bsize.width_mi(),
-            bsize.height_mi(),
-            Change::References(refs),
-        );
+        self.set_each(bo, bsize, |block| block.ref_frames = refs);
     }
 
     /// The motion vectors.
@@ -125,31 +90,41 @@ impl TileBlocksMut<'_> {
         requires placed { IsPlaced self.old }
         requires column { bo.0.x < (window self.old).cols }
         requires row { bo.0.y < (window self.old).rows }
-        ensures same { IsSameView self.old self.new }
-        ensures placed { IsPlaced self.new }
-        ensures blocks { blocks_under self.new ≡ with_each_of self.old bo.0 (block_width bsize) (block_height bsize) (λ b. record b { mv = mvs }) }
+        ensures { IsSetAt self.old self.new bo.0 bsize (λ b. record b { mv = mvs }) }
     {
-        self.change_part(
-            bo.0,
-            bsize.width_mi(),
-            bsize.height_mi(),
-            Change::Vectors(mvs),
-        );
+        self.set_each(bo, bsize, |block| block.mv = mvs);
     }
 
-    /// The CDEF index of each block of the superblock, where the view has it.
+    /// The CDEF index of each block of the superblock, which has 16 by 16 units, where the view has
+    /// it.
     pub fn set_cdef(&mut self, sbo: TileSuperBlockOffset, cdef_index: u8)
         requires placed { IsPlaced self.old }
         requires column { 16 * sbo.0.x < (window self.old).cols }
         requires row { 16 * sbo.0.y < (window self.old).rows }
-        ensures same { IsSameView self.old self.new }
-        ensures placed { IsPlaced self.new }
-        ensures blocks { blocks_under self.new ≡ with_each_of self.old (record { x = 16 * sbo.0.x; y = 16 * sbo.0.y }) 16 16 (λ b. record b { cdef_index = cdef_index }) }
+        ensures { IsSetAt self.old self.new (record { x = 16 * sbo.0.x; y = 16 * sbo.0.y })
+            BlockSize.BLOCK_64X64 (λ b. record b { cdef_index = cdef_index }) }
     {
-        let bo = BlockOffset {
+        let bo = TileBlockOffset(BlockOffset {
             x: 16 * sbo.0.x,
             y: 16 * sbo.0.y,
-        };
-        self.change_part(bo, 16, 16, Change::Cdef(cdef_index));
+        });
+        self.set_each(
+            bo,
+            BlockSize::BLOCK_64X64,
+            |block| block.cdef_index = cdef_index,
+        );
+    }
+
+    // `for_each`, of a function that can be called on any block: where its calls compute `change`,
+    // `change` is what is done.
+    fn set_each<F: Fn(&mut Block)>(&mut self, bo: TileBlockOffset, bsize: BlockSize, f: F)
+        requires placed { IsPlaced self.old }
+        requires column { bo.0.x < (window self.old).cols }
+        requires row { bo.0.y < (window self.old).rows }
+        requires callable { F.IsAlwaysCallable f }
+        ensures { (change : _) → Computes F.Fn f change
+            → IsSetAt self.old self.new bo.0 bsize change }
+    {
+        self.for_each(bo, bsize, f);
     }
 }

@@ -1,6 +1,6 @@
 ghost use Rattle.std.specs.Prelude.{◌≡◌, ◌+◌, ◌*◌, ◌≤◌, ◌<◌, length, IfOk};
 ghost use Rattle.std.specs.Borrow.{sem, Lends, Array};
-ghost use Rattle.av1_block.specs.Cut.{LiesIn, cut_of, overwritten, with_cut, cut_entries, cut_rect, cut_table_cols, recut};
+ghost use Rattle.av1_block.specs.Cut.{LiesInTable, cut_at, put_at, overwritten, cut_entries, cut_rect, cut_table_cols, recut};
 ghost use Rattle.av1_block.specs.contracts.cut.Cut.{the_row};
 
 use crate::table::Table;
@@ -25,8 +25,8 @@ impl<E: Copy> Cut<E> {
         table_cols: usize,
         rect: TileRect,
     ) -> Result<Cut<E>, OutOfMemory>
-        requires inside { LiesIn (length table.now) table_cols rect.x rect.y rect.width rect.height }
-        ensures entries { IfOk result (λ cut. cut_entries cut ≡ cut_of table.now table_cols rect.x rect.y rect.width rect.height) }
+        requires inside { LiesInTable (length table.now) table_cols rect }
+        ensures entries { IfOk result (λ cut. cut_entries cut ≡ cut_at table.now table_cols rect) }
         ensures place { IfOk result (λ cut. cut_rect cut ≡ rect) }
         ensures cols { IfOk result (λ cut. cut_table_cols cut ≡ table_cols) }
     {
@@ -43,8 +43,10 @@ impl<E: Copy> Cut<E> {
     /// they were cut from.
     #[tactic(auto, using(crate::proofs::Cuts::cuts))]
     pub fn put_back(&self, table: &mut [E])
-        requires inside { LiesIn (length table.old) (cut_table_cols self.now) (cut_rect self.now).x (cut_rect self.now).y (cut_rect self.now).width (cut_rect self.now).height }
-        ensures { table.new ≡ with_cut table.old (cut_table_cols self.now) (cut_rect self.now).x (cut_rect self.now).y (cut_rect self.now).width (cut_rect self.now).height (cut_entries self.now) }
+        requires inside { LiesInTable (length table.old) (cut_table_cols self.now)
+            (cut_rect self.now) }
+        ensures { table.new ≡ put_at table.old (cut_table_cols self.now) (cut_rect self.now)
+            (cut_entries self.now) }
     {
         for row in 0..self.table.rows {
             let from = self.y * self.table_cols + row * self.table_cols + self.x;
@@ -54,7 +56,8 @@ impl<E: Copy> Cut<E> {
 
     /// Where the entries stood, in entries of the table.
     pub fn rect(&self) -> TileRect
-        ensures { result ≡ cut_rect self.now }
+        ensures place { result ≡ cut_rect self.now }
+        ensures whole { length (cut_entries self.now) ≡ result.width * result.height }
     {
         TileRect {
             x: self.x,
@@ -73,7 +76,8 @@ impl<E: Copy> Cut<E> {
 
     /// The entries, row by row, for writing. Their place stays.
     pub fn entries_mut(&mut self) -> &mut [E]
-        ensures* writes_back { sem 𝓛 (Lends (the_row E.row) (Array E.row 0) self.entry result (recut self.old)) }
+        ensures* writes_back { sem 𝓛 (Lends (the_row E.row) (Array E.row 0) self.entry result
+            (recut self.old)) }
         ensures entries { result.now ≡ cut_entries self.old }
     {
         self.table.entries_mut()
@@ -88,8 +92,8 @@ fn copy_rows<E: Copy>(
     table_cols: usize,
     rect: TileRect,
 ) -> Result<Vec<E>, OutOfMemory>
-    requires inside { LiesIn (length table.now) table_cols rect.x rect.y rect.width rect.height }
-    ensures entries { IfOk result (λ made. made.items ≡ cut_of table.now table_cols rect.x rect.y rect.width rect.height) }
+    requires { LiesInTable (length table.now) table_cols rect }
+    ensures { IfOk result (λ made. made.items ≡ cut_at table.now table_cols rect) }
 {
     let mut entries = Vec::with_capacity(alloc, rect.width * rect.height)?;
     for row in 0..rect.height {

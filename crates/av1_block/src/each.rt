@@ -16,8 +16,10 @@ pub fn call_in_rectangle<F: Fn(&mut Block)>(
 )
     requires inside { LiesIn (length entries.old) cols x y width height }
     requires callable { All (Takes F.Fn f.now) (cut_of entries.old cols x y width height) }
-    ensures changed { AreRelated (Leaves F.Fn f.now) (cut_of entries.old cols x y width height) (cut_of entries.new cols x y width height) }
-    ensures elsewhere { entries.new ≡ with_cut entries.old cols x y width height (cut_of entries.new cols x y width height) }
+    ensures changed { AreRelated (Leaves F.Fn f.now) (cut_of entries.old cols x y width height)
+        (cut_of entries.new cols x y width height) }
+    ensures elsewhere { entries.new ≡ with_cut entries.old cols x y width height
+        (cut_of entries.new cols x y width height) }
 {
     for row in 0..height {
         let from = y * cols + row * cols + x;
@@ -28,8 +30,10 @@ pub fn call_in_rectangle<F: Fn(&mut Block)>(
 fn call_on_run<F: Fn(&mut Block)>(f: &F, entries: &mut [Block], from: usize, width: usize)
     requires fits { from + width ≤ length entries.old }
     requires callable { All (Takes F.Fn f.now) (take width (drop from entries.old)) }
-    ensures changed { AreRelated (Leaves F.Fn f.now) (take width (drop from entries.old)) (take width (drop from entries.new)) }
-    ensures elsewhere { entries.new ≡ overwritten entries.old from (take width (drop from entries.new)) }
+    ensures changed { AreRelated (Leaves F.Fn f.now) (take width (drop from entries.old))
+        (take width (drop from entries.new)) }
+    ensures elsewhere { entries.new ≡ overwritten entries.old from
+        (take width (drop from entries.new)) }
 {
     call_on_all(f, &mut entries[from..from + width]);
 }

@@ -10,15 +10,14 @@ use std::alloc::Global;
 pub type FrameBlocks = Table<Block>;
 
 impl Table<Block> {
-    ghost use Rattle.av1_block.specs.Tables.{table_entries};
-
     /// A table of default blocks, with sides of at most 16384.
     pub fn new(alloc: Global, cols: usize, rows: usize) -> Result<FrameBlocks, OutOfMemory>
         requires cols { cols ≤ 16384 }
         requires rows { rows ≤ 16384 }
         ensures cols { IfOk result (λ made. made.cols ≡ cols) }
         ensures rows { IfOk result (λ made. made.rows ≡ rows) }
-        ensures blocks { IfOk result (λ made. table_entries made ≡ replicate (cols * rows) default_block) }
+        ensures blocks { IfOk result (λ made.
+            made.entries ≡ replicate (cols * rows) default_block) }
     {
         let blocks = default_blocks(alloc, cols * rows)?;
         Ok(Table::from_entries(blocks, cols, rows))

@@ -1,14 +1,13 @@
 //! Blocks of a frame: their sizes, records and tables, and views of a rectangle of a table.
 //!
-//! A table has one entry for each unit of 4 by 4 luma samples, row by row. A view borrows a rectangle
-//! of a table, for reading or for writing; a cut owns a copy of one and can be put back.
+//! A table has one entry for each unit of 4 by 4 luma samples, row by row. A view borrows a
+//! rectangle of a table, for reading or for writing; a cut owns a copy of one and can be put back.
 #![tactic(auto)]
 
 mod as_tile_blocks;
 mod block;
 mod block_setters;
 mod block_size;
-mod change;
 mod cut;
 mod each;
 mod frame_blocks;
@@ -16,13 +15,14 @@ pub mod laws;
 mod me_stats;
 mod prediction_mode;
 mod ref_type;
+mod restoration_unit;
 mod table;
 #[cfg(test)]
 mod tests;
 mod tile_blocks;
 mod tile_blocks_mut;
-mod tile_me_stats;
-mod tile_me_stats_mut;
+mod tile_view;
+mod tile_view_mut;
 mod tx_size;
 mod window;
 
@@ -31,12 +31,16 @@ pub use block::{Block, MotionVector};
 pub use block_size::BlockSize;
 pub use cut::Cut;
 pub use frame_blocks::FrameBlocks;
-pub use me_stats::{FrameMEStats, MEStats};
+pub use me_stats::{FrameMEStats, MEStats, TileMEStats, TileMEStatsMut};
 pub use prediction_mode::PredictionMode;
 pub use ref_type::RefType;
+pub use restoration_unit::{
+    FrameRestorationUnits, RestorationFilter, RestorationUnit, TileRestorationUnits,
+    TileRestorationUnitsMut,
+};
 pub use table::Table;
 pub use tile_blocks::TileBlocks;
 pub use tile_blocks_mut::TileBlocksMut;
-pub use tile_me_stats::TileMEStats;
-pub use tile_me_stats_mut::TileMEStatsMut;
+pub use tile_view::TileView;
+pub use tile_view_mut::TileViewMut;
 pub use tx_size::TxSize;

@@ -3,6 +3,8 @@ ghost use Rattle.std.specs.Prelude.{◌≡◌, ◌*◌, ◌≤◌, replicate, If
 
 use crate::block::MotionVector;
 use crate::table::Table;
+use crate::tile_view::TileView;
+use crate::tile_view_mut::TileViewMut;
 use av1_plane::OutOfMemory;
 use std::alloc::Global;
 
@@ -29,16 +31,20 @@ impl Default for MEStats {
 /// The motion records of a frame.
 pub type FrameMEStats = Table<MEStats>;
 
-impl Table<MEStats> {
-    ghost use Rattle.av1_block.specs.Tables.{table_entries};
+/// A rectangle of a table of motion records, for reading.
+pub type TileMEStats<'a> = TileView<'a, MEStats>;
 
+/// A rectangle of a table of motion records, for reading and writing.
+pub type TileMEStatsMut<'a> = TileViewMut<'a, MEStats>;
+
+impl Table<MEStats> {
     /// A table of default records, with sides of at most 16384.
     pub fn new(alloc: Global, cols: usize, rows: usize) -> Result<FrameMEStats, OutOfMemory>
         requires cols { cols ≤ 16384 }
         requires rows { rows ≤ 16384 }
         ensures cols { IfOk result (λ made. made.cols ≡ cols) }
         ensures rows { IfOk result (λ made. made.rows ≡ rows) }
-        ensures stats { IfOk result (λ made. table_entries made ≡ replicate (cols * rows) no_stats) }
+        ensures stats { IfOk result (λ made. made.entries ≡ replicate (cols * rows) no_stats) }
     {
         let stats = default_stats(alloc, cols * rows)?;
         Ok(Table::from_entries(stats, cols, rows))

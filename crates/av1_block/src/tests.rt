@@ -1,8 +1,10 @@
+ghost use Rattle.std.specs.Prelude.{◌≡◌, IfOk};
+
 use crate::{
-    AsTileBlocks, Block, BlockSize, Cut, FrameBlocks, FrameMEStats, MEStats, MotionVector, RefType,
-    TileBlocks, TileBlocksMut, TileMEStats, TileMEStatsMut, TxSize, laws,
+    AsTileBlocks, Block, BlockSize, Cut, FrameBlocks, FrameMEStats, MEStats, MotionVector,
+    PredictionMode, RefType, TileBlocks, TileBlocksMut, TileMEStats, TileMEStatsMut, TxSize, laws,
 };
-use av1_plane::{BlockOffset, TileBlockOffset, TileRect};
+use av1_plane::{BlockOffset, SuperBlockOffset, TileBlockOffset, TileRect, TileSuperBlockOffset};
 use std::test::Fail;
 
 #[test]
@@ -56,6 +58,29 @@ fn writes_a_part_of_a_table(rt: HostRuntime) -> Result<(), Fail> {
     view.set_skip(bo, BlockSize::BLOCK_8X8, true);
     assert!(rt; view[bo].skip);
     view.for_each(bo, BlockSize::BLOCK_4X4, |block| block.segmentation_idx = 3);
+    view.set_block_size(bo, BlockSize::BLOCK_4X8);
+    view.set_mode(bo, BlockSize::BLOCK_4X4, PredictionMode::PAETH_PRED);
+    view.set_tx_size(bo, BlockSize::BLOCK_4X4, TxSize::TX_4X8);
+    view.set_ref_frames(
+        bo,
+        BlockSize::BLOCK_4X4,
+        [RefType::LAST_FRAME, RefType::NONE_FRAME],
+    );
+    view.set_motion_vectors(
+        bo,
+        BlockSize::BLOCK_4X4,
+        [MotionVector { row: 1, col: -1 }; 2],
+    );
+    view.set_cdef(TileSuperBlockOffset(SuperBlockOffset { x: 0, y: 0 }), 5);
+    assert_eq!(rt;
+        view.get_cdef(TileSuperBlockOffset(SuperBlockOffset { x: 0, y: 0 })),
+        5
+    );
+    assert_eq!(rt; (view[bo].n4_w, view[bo].n4_h), (1, 2));
+    assert_eq!(rt; view[bo].mode, PredictionMode::PAETH_PRED);
+    assert_eq!(rt; view[bo].txsize, TxSize::TX_4X8);
+    assert_eq!(rt; view[bo].ref_frames[0], RefType::LAST_FRAME);
+    assert_eq!(rt; view[bo].mv[1].col, -1);
     let seen = TileBlocks::new(&blocks, 2, 0, 1, 2);
     assert_eq!(rt; (seen.cols(), seen.frame_cols()), (1, 4));
     let skips = [false, false, true, false, false, false, true, false];
@@ -68,6 +93,51 @@ fn writes_a_part_of_a_table(rt: HostRuntime) -> Result<(), Fail> {
         assert_eq!(rt; block.skip, *skip);
         assert_eq!(rt; block.segmentation_idx, *segment);
     }
+    Ok(())
+}
+
+fn at(x: usize, y: usize) -> TileBlockOffset
+    ensures { result.0 ≡ record { x = x; y = y } }
+{
+    TileBlockOffset(BlockOffset { x, y })
+}
+
+// Entry `i` of a table of 6 by 4 blocks is in segment `i`.
+fn numbered(rt: &HostRuntime) -> Result<FrameBlocks, Fail>
+    ensures cols { IfOk result (λ made. made.cols ≡ 6) }
+    ensures rows { IfOk result (λ made. made.rows ≡ 4) }
+{
+    let mut blocks = FrameBlocks::new(rt.alloc(), 6, 4)?;
+    let mut number = 0u8;
+    for block in blocks.entries_mut().iter_mut() {
+        block.segmentation_idx = number;
+        number = number.wrapping_add(1);
+    }
+    Ok(blocks)
+}
+
+#[test]
+fn reads_neighbours(rt: HostRuntime) -> Result<(), Fail> {
+    let mut blocks = numbered(&rt)?;
+    let view = TileBlocks::new(&blocks, 2, 1, 3, 2);
+    assert_eq!(rt; view.above_of(at(1, 1)).segmentation_idx, 9);
+    assert_eq!(rt; view.left_of(at(1, 1)).segmentation_idx, 14);
+    assert_eq!(rt; view.above_left_of(at(1, 1)).segmentation_idx, 8);
+    assert_eq!(rt; view[at(2, 1)].segmentation_idx, 16);
+    assert_eq!(rt; view.row(1)[0].segmentation_idx, 14);
+    let part = view.subregion(1, 0, 5, 5);
+    assert_eq!(rt;
+        (part.x(), part.y(), part.cols(), part.rows()),
+        (3, 1, 2, 2)
+    );
+    assert_eq!(rt; part[at(0, 1)].segmentation_idx, 15);
+    let mut view = TileBlocksMut::new(&mut blocks, 2, 1, 3, 2);
+    assert_eq!(rt; view.above_left_of(at(1, 1)).segmentation_idx, 8);
+    assert_eq!(rt; view.as_const()[at(2, 1)].segmentation_idx, 16);
+    view[at(2, 1)].segmentation_idx = 99;
+    view.row_mut(0)[1].segmentation_idx = 98;
+    assert_eq!(rt; view.row(1)[2].segmentation_idx, 99);
+    assert_eq!(rt; view.subregion(1, 0, 1, 1)[at(0, 0)].segmentation_idx, 98);
     Ok(())
 }
 

@@ -1,5 +1,7 @@
 ghost use Rattle.std.specs.Prelude.{◌≡◌, ◌+◌, ◌<◌, ◌≤◌, ◌^◌};
-ghost use Rattle.av1_block.specs.Windows.{part_of};
+ghost use Rattle.av1_block.specs.Windows.{cut_window, window_part};
+
+use av1_plane::TileRect;
 
 /// A view's rectangle, in the table that it borrows and in the frame's table.
 #[derive(Clone, Copy, Debug)]
@@ -19,6 +21,22 @@ pub struct Window {
 }
 
 impl Window {
+    /// All of a table that was cut out of a frame's table of these sides.
+    pub fn of_cut(rect: TileRect, frame_cols: usize, frame_rows: usize) -> Window
+        ensures { result ≡ cut_window rect frame_cols frame_rows }
+    {
+        Window {
+            left: 0,
+            top: 0,
+            x: rect.x,
+            y: rect.y,
+            cols: rect.width,
+            rows: rect.height,
+            frame_cols,
+            frame_rows,
+        }
+    }
+
     /// The part from column `x` of row `y` on, with these sides where the window has them.
     pub fn part(self, x: usize, y: usize, cols: usize, rows: usize) -> Window
         requires column { x ≤ self.cols }
@@ -27,7 +45,7 @@ impl Window {
         requires top { self.top + self.rows < 2 ^ 64 }
         requires across { self.x + self.cols ≤ self.frame_cols }
         requires down { self.y + self.rows ≤ self.frame_rows }
-        ensures { result ≡ part_of self x y cols rows }
+        ensures { result ≡ window_part self x y cols rows }
     {
         Window {
             left: self.left + x,

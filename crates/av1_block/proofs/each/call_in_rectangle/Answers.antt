@@ -3,7 +3,7 @@ use Rattle.av1_block.specs.declared.block.Block.{Block}
 use Rattle.av1_block.specs.Cut.{LiesIn, cut_of}
 use Rattle.av1_block.specs.Each.{Takes, Leaves}
 use Rattle.av1_block.proofs.Cuts.{length_row, with_cut-zero, row_inside}
-use Rattle.av1_block.proofs.Changes.{first_rows}
+use Rattle.av1_block.proofs.FirstRows.{first_rows}
 use Rattle.av1_block.proofs.Related.{related_none, next_row, All-next_row}
 use Rattle.av1_block.proofs.each.call_in_rectangle.Goals as goal
 
