@@ -2,6 +2,8 @@
 use Rattle.std.proofs.Common.{◌≡◌, ℕ, ◌+◌, ◌-◌, ◌*◌, ◌/◌, ◌%◌, ◌<◌, ◌≤◌, min, sym, ap, ◌∙◌, subst, arith}
 use Rattle.std.proofs.lemmas.Nat.{div_below, mod_below, div-mul-add, mod-mul-add, mul-add-lt, div-add-mod'}
 use Rattle.std.proofs.Math.Nat.{div-mul-le_self, lt-div-mul-add, mul_comm}
+use Rattle.av1_plane.specs.declared.tile_rect.TileRect.{TileRect}
+use Rattle.av1_block.specs.Cut.{IsInside}
 use Rattle.av1_tiling.specs.Partition.{Partitions}
 
 -- the parts that begin at start i and are size i long, i below count, cut a line of this length: each place lies in exactly one
@@ -47,6 +49,10 @@ one_cut start size whole first all = record {
   apart = λ i j x li lj _ _. omega arith;
 }
 
+-- a place that lies in a rectangle along both sides
+inside_of : {r : TileRect} {x y : ℕ} → (r.x ≤ x) × (x < r.x + r.width) → (r.y ≤ y) × (y < r.y + r.height) → IsInside r x y
+inside_of along down = record { left = along.0; right = along.1; top = down.0; bottom = down.1 }
+
 -- a table cut along both sides, its parts counted row by row
 pub table_cut : (start_x size_x start_y size_y : ℕ → ℕ) (cols rows width height : ℕ) → 0 < cols → IsCut start_x size_x cols width → IsCut start_y size_y rows height
     → Partitions (λ n. record { x = start_x (n % cols); y = start_y (n / cols); width = size_x (n % cols); height = size_y (n / cols) }) (cols * rows) width height
@@ -57,14 +63,13 @@ table_cut start_x size_x start_y size_y cols rows width height some along down =
       let r = down.covered y ly in (
         r.0 * cols + c.0,
         mul-add-lt r.0 cols c.0 rows r.1 c.1,
-        (
-          subst (λ (i : ℕ). (start_x i ≤ x) × (x < start_x i + size_x i)) (sym (mod-mul-add r.0 cols c.0 c.1)) c.2,
-          subst (λ (i : ℕ). (start_y i ≤ y) × (y < start_y i + size_y i)) (sym (div-mul-add r.0 cols c.0 c.1)) r.2,
-        ),
+        inside_of
+            (subst (λ (i : ℕ). (start_x i ≤ x) × (x < start_x i + size_x i)) (sym (mod-mul-add r.0 cols c.0 c.1)) c.2)
+            (subst (λ (i : ℕ). (start_y i ≤ y) × (y < start_y i + size_y i)) (sym (div-mul-add r.0 cols c.0 c.1)) r.2),
       );
   apart = λ m n x y lm ln p q.
-      let column = along.apart (m % cols) (n % cols) x (mod_below m cols some) (mod_below n cols some) p.0 q.0 in
-      let row = down.apart (m / cols) (n / cols) y (row_below m cols rows some lm) (row_below n cols rows some ln) p.1 q.1 in
+      let column = along.apart (m % cols) (n % cols) x (mod_below m cols some) (mod_below n cols some) (p.left, p.right) (q.left, q.right) in
+      let row = down.apart (m / cols) (n / cols) y (row_below m cols rows some lm) (row_below n cols rows some ln) (p.top, p.bottom) (q.top, q.bottom) in
       sym (div-add-mod' m cols) ∙ (ap (λ (i : ℕ). i * cols + m % cols) row ∙ (ap (λ (i : ℕ). n / cols * cols + i) column ∙ div-add-mod' n cols));
 }
   where

@@ -1,10 +1,10 @@
 -- Worked examples of the grid and of the rectangles of its tiles.
-use Rattle.std.proofs.Common.{◌≡◌, ℕ, true, false, Option, Some, None, List, [], ◌∷◌, refl, sym, ap, ◌∙◌}
+use Rattle.std.proofs.Common.{◌≡◌, ℕ, true, false, Option, Some, None, List, [], ◌∷◌, refl}
 use Rattle.av1_plane.specs.declared.tile_rect.TileRect.{TileRect}
 use Rattle.av1_tiling.specs.declared.tiling_info.TilingInfo.{TilingInfo}
 use Rattle.av1_tiling.specs.Least.{least, tile_log2}
 use Rattle.av1_tiling.specs.Grid.{grid, rate_log2, tile_width}
-use Rattle.av1_tiling.specs.TileRects.{block_columns, block_rows, tile_blocks, tile_samples, tile_plane}
+use Rattle.av1_tiling.specs.TileRects.{tile_blocks, tile_samples, tile_plane}
 
 -- a small frame, one tile to a superblock
 abbrev small : TilingInfo
@@ -88,11 +88,3 @@ lower_blocks = refl
 
 last_blocks : tile_blocks small 8 ≡ rect 32 32 8 4
 last_blocks = refl
-
--- its block table has 40 by 36 entries
-module _ (t : TilingInfo) (is : grid 6 160 144 25 1 10 8 false ≡ Some t) where
-  pub nine_columns : 40 ≡ block_columns t
-  nine_columns = ap (λ (answer : Option TilingInfo). elim answer [ Some u ↦ block_columns u | None ↦ 0 ]) (sym nine_tiles ∙ is)
-
-  pub nine_rows : 36 ≡ block_rows t
-  nine_rows = ap (λ (answer : Option TilingInfo). elim answer [ Some u ↦ block_rows u | None ↦ 0 ]) (sym nine_tiles ∙ is)

@@ -1,6 +1,6 @@
 -- The samples of a tile's view lie in the stored rows of each plane: a plane's margin is wider than what rounding a
 -- tile up to whole superblocks adds.
-use Rattle.std.proofs.Common.{ℕ, Bool, true, false, ◌+◌, ◌*◌, ◌/◌, ◌^◌, ◌<◌, ◌≤◌, arith, ap, sym, subst}
+use Rattle.std.proofs.Common.{ℕ, Bool, All, true, false, ◌+◌, ◌*◌, ◌/◌, ◌^◌, ◌<◌, ◌≤◌, arith, ap, sym, subst}
 use Rattle.std.specs.Prelude.{◌==◌, ◌||◌, if◌then◌else◌}
 use Rattle.std.proofs.lemmas.Grind.{div_ceil_times}
 use Rattle.av1_plane.specs.Layout.{frame_layout, rounded}
@@ -8,8 +8,9 @@ use Rattle.av1_plane.specs.declared.plane.PlaneConfig.{PlaneConfig}
 use Rattle.av1_plane.specs.declared.sampling.ChromaSampling.{ChromaSampling}
 use Rattle.av1_plane.specs.declared.sampling.ChromaSampling.TheVariants.{Cs420, Cs422, Cs444, Cs400}
 use Rattle.av1_plane.specs.declared.tile_rect.TileRect.{TileRect}
-use Rattle.av1_tiling.specs.Grid.{round_up}
-use Rattle.av1_tiling.specs.Frames.{PartFits, LiesInFrame, samples_rect, no_rect}
+use Rattle.av1_tiling.specs.Grid.{round_up, IsBuiltSide}
+use Rattle.av1_tiling.specs.TileRects.{samples_rect, motion_rect}
+use Rattle.av1_tiling.specs.Frames.{State, PartFits, LiesInFrame, HoldsRect, no_rect}
 use Rattle.av1_tiling.specs.Views.{PlaneView}
 use Rattle.av1_plane.specs.declared.three.Three.{Three}
 
@@ -60,30 +61,49 @@ module _ (w h x y width height : ℕ) (wide : x * 64 + width ≤ rounded w) (hig
   chroma_fits Cs400 = record { columns = omega arith; rows = omega arith; xdec = omega arith; ydec = omega arith; x = omega (arith, columns); y = omega (arith, rows) }
 
 -- the parts of a tile that lies in a frame
-module _ (f : Three PlaneView) (superblock : ℕ × ℕ) (width height : ℕ) (lies : LiesInFrame f superblock width height) where
-  pub fits_y : PartFits f.y.cfg (samples_rect superblock 6 width height)
-  fits_y = subst (λ cfg. PartFits cfg (samples_rect superblock 6 width height)) (sym (ap (λ t. t.y) lies.layout))
-      (luma_fits lies.frame_width lies.frame_height superblock.0 superblock.1 width height lies.wide lies.high lies.width_limit lies.height_limit lies.sampling)
+module _ (state : State) (superblock : ℕ × ℕ) (s width height : ℕ) (lies : LiesInFrame state superblock s width height) (built : IsBuiltSide s) where
+  -- it lies there with superblocks of 64 samples
+  lies_64 : LiesInFrame state superblock 6 width height
+  lies_64 = subst (λ k. LiesInFrame state superblock k width height) built lies
 
-  pub fits_u : PartFits f.u.cfg (samples_rect superblock 6 width height)
-  fits_u = subst (λ cfg. PartFits cfg (samples_rect superblock 6 width height)) (sym (ap (λ t. t.u) lies.layout))
-      (chroma_fits lies.frame_width lies.frame_height superblock.0 superblock.1 width height lies.wide lies.high lies.width_limit lies.height_limit lies.sampling)
+  -- what fits with those fits
+  with_side : (cfg : PlaneConfig) → PartFits cfg (samples_rect superblock 6 width height) → PartFits cfg (samples_rect superblock s width height)
+  with_side cfg fits = subst (λ k. PartFits cfg (samples_rect superblock k width height)) (sym built) fits
 
-  pub fits_v : PartFits f.v.cfg (samples_rect superblock 6 width height)
-  fits_v = subst (λ cfg. PartFits cfg (samples_rect superblock 6 width height)) (sym (ap (λ t. t.v) lies.layout))
-      (chroma_fits lies.frame_width lies.frame_height superblock.0 superblock.1 width height lies.wide lies.high lies.width_limit lies.height_limit lies.sampling)
+  pub fits_y : PartFits state.rec.y.cfg (samples_rect superblock s width height)
+  fits_y = with_side state.rec.y.cfg (subst (λ cfg. PartFits cfg (samples_rect superblock 6 width height)) (sym (ap (λ t. t.y) lies_64.layout))
+      (luma_fits lies_64.frame_width lies_64.frame_height superblock.0 superblock.1 width height lies_64.wide lies_64.high lies_64.width_limit lies_64.height_limit lies_64.sampling))
+
+  pub fits_u : PartFits state.rec.u.cfg (samples_rect superblock s width height)
+  fits_u = with_side state.rec.u.cfg (subst (λ cfg. PartFits cfg (samples_rect superblock 6 width height)) (sym (ap (λ t. t.u) lies_64.layout))
+      (chroma_fits lies_64.frame_width lies_64.frame_height superblock.0 superblock.1 width height lies_64.wide lies_64.high lies_64.width_limit lies_64.height_limit lies_64.sampling))
+
+  pub fits_v : PartFits state.rec.v.cfg (samples_rect superblock s width height)
+  fits_v = with_side state.rec.v.cfg (subst (λ cfg. PartFits cfg (samples_rect superblock 6 width height)) (sym (ap (λ t. t.v) lies_64.layout))
+      (chroma_fits lies_64.frame_width lies_64.frame_height superblock.0 superblock.1 width height lies_64.wide lies_64.high lies_64.width_limit lies_64.height_limit lies_64.sampling))
 
   -- the code's products and sums stay small
   pub small_x : superblock.0 < 2 ^ 20
-  small_x = let w = lies.wide in let l = lies.width_limit in omega arith
+  small_x = let w = lies_64.wide in let l = lies_64.width_limit in omega arith
 
   pub small_y : superblock.1 < 2 ^ 20
-  small_y = let w = lies.high in let l = lies.height_limit in omega arith
+  small_y = let w = lies_64.high in let l = lies_64.height_limit in omega arith
 
   pub small_width : width < 2 ^ 20
-  small_width = let w = lies.wide in let l = lies.width_limit in omega arith
+  small_width = let w = lies_64.wide in let l = lies_64.width_limit in omega arith
 
   pub small_height : height < 2 ^ 20
-  small_height = let w = lies.high in let l = lies.height_limit in omega arith
+  small_height = let w = lies_64.high in let l = lies_64.height_limit in omega arith
+
+  -- the tile's motion records lie in each table
+  pub motion_fits : All (HoldsRect (motion_rect superblock s width height)) state.frame_me_stats
+  motion_fits = subst (λ k. All (HoldsRect (motion_rect superblock k width height)) state.frame_me_stats) (sym built)
+      (λ i d l.
+      let sides = lies_64.motion.sides i d l in
+      let cols = sides.0 in
+      let rows = sides.1 in
+      let wide = lies_64.wide in
+      let high = lies_64.high in
+      record { across = omega arith; down = omega arith })
 
 pub ruleset fits = (fits_y, fits_u, fits_v, small_x, small_y, small_width, small_height)

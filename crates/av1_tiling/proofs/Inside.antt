@@ -5,14 +5,12 @@ use Rattle.std.specs.Int.{div_ceil}
 use Rattle.std.proofs.lemmas.Nat.{div_below, mod_below, pow_pos}
 use Rattle.std.proofs.lemmas.Bool.{and_parts, leb-true}
 use Rattle.std.proofs.Math.Nat.{mul_comm, mul-le-mul_right}
-use Rattle.av1_plane.specs.declared.three.Three.{Three}
 use Rattle.av1_plane.specs.declared.tile_rect.TileRect.{TileRect}
 use Rattle.av1_plane.specs.Layout.{rounded}
 use Rattle.av1_tiling.specs.declared.tiling_info.TilingInfo.{TilingInfo}
 use Rattle.av1_tiling.specs.Grid.{grid, round_up, is_frame, is_side, tile_width, width_of}
 use Rattle.av1_tiling.specs.TileRects.{tile_superblock, tile_luma, tile_blocks, superblock_columns, superblock_rows, block_columns, block_rows}
-use Rattle.av1_tiling.specs.Views.{PlaneView}
-use Rattle.av1_tiling.specs.Frames.{IsTilingOf, LiesInFrame, is_422}
+use Rattle.av1_tiling.specs.Frames.{State, AreMotionTables, IsTilingOf, LiesInFrame, is_422}
 use Rattle.av1_tiling.proofs.GridFacts.{fewer_do_not, div_ceil-le, div_ceil-pos, div_ceil_side-le}
 use Rattle.av1_tiling.proofs.TilingFacts.{IsTiling, grid_is}
 
@@ -62,14 +60,14 @@ grid_takes width height num den target_cols target_rows even t e =
     }
 
 -- where tile n lies, with superblocks of 64 samples a side
-pub record Placed (t : TilingInfo) (f : Three PlaneView) (cols rows n : ℕ) : Type 0 where
+pub record Placed (t : TilingInfo) (state : State) (cols rows n : ℕ) : Type 0 where
   pub six : t.sb_size_log2 ≡ 6
   pub some : 0 < t.cols
   pub tile_wide : t.tile_width_sb < 2 ^ 20
   pub tile_high : t.tile_height_sb < 2 ^ 20
   pub x : (tile_superblock t n).0 < 2 ^ 20
   pub y : (tile_superblock t n).1 < 2 ^ 20
-  pub lies : LiesInFrame f (tile_superblock t n) (min (t.tile_width_sb * 64) (t.frame_width - (tile_superblock t n).0 * 64)) (min (t.tile_height_sb * 64) (t.frame_height - (tile_superblock t n).1 * 64))
+  pub lies : LiesInFrame state (tile_superblock t n) t.sb_size_log2 (min (t.tile_width_sb * 64) (t.frame_width - (tile_superblock t n).0 * 64)) (min (t.tile_height_sb * 64) (t.frame_height - (tile_superblock t n).1 * 64))
   pub across : (tile_superblock t n).0 * 16 + min (t.tile_width_sb * 16) (block_columns t - (tile_superblock t n).0 * 16) ≤ cols
   pub down : (tile_superblock t n).1 * 16 + min (t.tile_height_sb * 16) (block_rows t - (tile_superblock t n).1 * 16) ≤ rows
 
@@ -81,12 +79,21 @@ positive (suc a) b n l = omega arith
 begins : (side part i : ℕ) → 0 < part → i < div_ceil (div_ceil side 64) part → i * part * 64 < side
 begins side part i some l = fewer_do_not side 64 (i * part) (omega arith) (fewer_do_not (div_ceil side 64) part i some l)
 
-module _ (t : TilingInfo) (f : Three PlaneView) (cols rows : ℕ) (made : IsTilingOf t f cols rows) (n : ℕ) (l : n < t.cols * t.rows) where
+-- what is known of every tiling holds of a frame's
+pub tiling_facts : (t : TilingInfo) (state : State) (cols rows : ℕ) → IsTilingOf t state cols rows → IsTiling t
+tiling_facts t state cols rows made = grid_is t.sb_size_log2 made.width made.height made.num made.den made.target_cols made.target_rows (is_422 made.sampling) t made.tiling
+
+-- a frame's tiling is a grid of superblocks of 64 samples
+of_64 : (t : TilingInfo) (state : State) (cols rows : ℕ) (made : IsTilingOf t state cols rows)
+    → grid 6 made.width made.height made.num made.den made.target_cols made.target_rows (is_422 made.sampling) ≡ Some t
+of_64 t state cols rows made = subst (λ s. grid s made.width made.height made.num made.den made.target_cols made.target_rows (is_422 made.sampling) ≡ Some t) made.built made.tiling
+
+module _ (t : TilingInfo) (state : State) (cols rows : ℕ) (made : IsTilingOf t state cols rows) (n : ℕ) (l : n < t.cols * t.rows) where
   taken : Taken made.width made.height t
-  taken = grid_takes made.width made.height made.num made.den made.target_cols made.target_rows (is_422 made.sampling) t made.tiling
+  taken = grid_takes made.width made.height made.num made.den made.target_cols made.target_rows (is_422 made.sampling) t (of_64 t state cols rows made)
 
   facts : IsTiling t
-  facts = grid_is 6 made.width made.height made.num made.den made.target_cols made.target_rows (is_422 made.sampling) t made.tiling
+  facts = tiling_facts t state cols rows made
 
   some : 0 < t.cols
   some = positive t.cols t.rows n l
@@ -116,7 +123,7 @@ module _ (t : TilingInfo) (f : Three PlaneView) (cols rows : ℕ) (made : IsTili
       let w = facts.high.1 in
       omega arith
 
-  pub placed : Placed t f cols rows n
+  pub placed : Placed t state cols rows n
   placed =
       let c = column in
       let r = row in
@@ -133,16 +140,18 @@ module _ (t : TilingInfo) (f : Three PlaneView) (cols rows : ℕ) (made : IsTili
         tile_high = low_tile;
         x = omega arith;
         y = omega arith;
-        lies = record {
+        lies = subst (λ s. LiesInFrame state (tile_superblock t n) s (min (t.tile_width_sb * 64) (t.frame_width - (tile_superblock t n).0 * 64)) (min (t.tile_height_sb * 64) (t.frame_height - (tile_superblock t n).1 * 64))) (sym made.built) (record {
           frame_width = made.width;
           frame_height = made.height;
           sampling = made.sampling;
           layout = made.layout;
+          motion = subst (λ c. AreMotionTables c (rounded made.height / 4) state.frame_me_stats) (made.wide ∙ ap (λ (n : ℕ). n / 4) taken.wide)
+              (subst (λ r. AreMotionTables cols r state.frame_me_stats) (made.high ∙ ap (λ (n : ℕ). n / 4) taken.high) made.motion);
           width_limit = few;
           height_limit = low;
           wide = omega arith;
           high = omega arith;
-        };
+        });
         across = omega arith;
         down = omega arith;
       }
@@ -172,9 +181,9 @@ module _ (t : TilingInfo) (n : ℕ) (six : t.sb_size_log2 ≡ 6) where
   blocks_are r ex ey ew eh = blocks_at r ex ey ew eh t.sb_size_log2 six
 
 -- a frame has few tiles
-pub few_tiles : (t : TilingInfo) (f : Three PlaneView) (cols rows : ℕ) → IsTilingOf t f cols rows → t.cols * t.rows < 2 ^ 64
-few_tiles t f cols rows made =
-    let facts = grid_is 6 made.width made.height made.num made.den made.target_cols made.target_rows (is_422 made.sampling) t made.tiling in
+pub few_tiles : (t : TilingInfo) (state : State) (cols rows : ℕ) → IsTilingOf t state cols rows → t.cols * t.rows < 2 ^ 64
+few_tiles t state cols rows made =
+    let facts = tiling_facts t state cols rows made in
     let wide = div_ceil-le t.frame_width (2 ^ t.sb_size_log2) (pow_pos t.sb_size_log2) in
     let high = div_ceil-le t.frame_height (2 ^ t.sb_size_log2) (pow_pos t.sb_size_log2) in
     let across = div_ceil-le (superblock_columns t) t.tile_width_sb facts.tile_wide in

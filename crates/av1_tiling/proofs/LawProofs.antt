@@ -7,7 +7,9 @@ use Rattle.std.proofs.Math.Nat.{mul-le-mul_right, mul_comm, mul_assoc, pow-suc, 
 use Rattle.av1_tiling.specs.Least.{IsTileLog2}
 use Rattle.av1_tiling.specs.Grid.{round_up, max_count_log2}
 use Rattle.av1_tiling.specs.Laws.{FitsUnits, CutsPlanes, CutsBlocks, CutsMotion, CutsUnits, CountsByLog2}
-use Rattle.av1_tiling.specs.TileRects.{superblock_side, superblock_columns, superblock_rows, block_columns, block_rows}
+use Rattle.av1_plane.specs.declared.tile_rect.TileRect.{TileRect}
+use Rattle.av1_tiling.specs.Partition.{Partitions}
+use Rattle.av1_tiling.specs.TileRects.{superblock_side, superblock_columns, superblock_rows, tile_superblock, tile_blocks, tile_motion, block_columns, block_rows}
 use Rattle.av1_tiling.specs.declared.tiling_info.TilingInfo.{TilingInfo}
 use Rattle.av1_tiling.proofs.LeastFacts.{tile_log2-from, tile_log2_is}
 use Rattle.av1_tiling.proofs.GridFacts.{parts_hold, div_ceil-pos, shifted-one, max_count_log2-le}
@@ -70,8 +72,21 @@ cuts_blocks t h =
     (block_line t.tile_width_sb t.frame_width side t.cols h.tile_wide whole h.cols)
     (block_line t.tile_height_sb t.frame_height side t.rows (tile_high-pos t h) whole h.rows)
 
+-- a quarter of a tile's side
+quarter : (w frame x s : ℕ) → (s ≡ 6) ⊎ (s ≡ 7) → min (w * 2 ^ s) (frame - x * 2 ^ s) / 4 ≡ min (w * (2 ^ s / 4)) (frame / 4 - x * (2 ^ s / 4))
+quarter w frame x s (inl e) = subst (λ (k : ℕ). min (w * 2 ^ k) (frame - x * 2 ^ k) / 4 ≡ min (w * (2 ^ k / 4)) (frame / 4 - x * (2 ^ k / 4))) (sym e) (omega arith)
+quarter w frame x s (inr e) = subst (λ (k : ℕ). min (w * 2 ^ k) (frame - x * 2 ^ k) / 4 ≡ min (w * (2 ^ k / 4)) (frame / 4 - x * (2 ^ k / 4))) (sym e) (omega arith)
+
+-- a tile's motion records stand at the places of its blocks
+pub motion_is_blocks : (t : TilingInfo) → IsTiling t → (n : ℕ) → tile_motion t n ≡ tile_blocks t n
+motion_is_blocks t h n =
+    let width = quarter t.tile_width_sb t.frame_width (tile_superblock t n).0 t.sb_size_log2 h.side in
+    let height = quarter t.tile_height_sb t.frame_height (tile_superblock t n).1 t.sb_size_log2 h.side in
+    λ i. record { x = (tile_blocks t n).x; y = (tile_blocks t n).y; width = width i; height = height i }
+
 pub cuts_motion : (t : TilingInfo) → IsTiling t → CutsMotion t
-cuts_motion t h = cuts_blocks t h
+cuts_motion t h =
+    subst (λ (rect : ℕ → TileRect). Partitions rect (t.cols * t.rows) (block_columns t) (block_rows t)) (λ i n. sym (motion_is_blocks t h n) i) (cuts_blocks t h)
 
 -- along one side: the units of tiles of w of n superblocks
 unit_line : (shift units w n tiles : ℕ) → 0 < w → tiles ≡ div_ceil n w → FitsUnits shift units tiles w n

@@ -11,7 +11,12 @@ pub mod TilingFacts
 pub mod Inside
 pub mod ViewLists
 pub mod PutBack
+pub mod Placed
 pub mod Quotients
 pub mod TileCuts
 pub mod LawProofs
 pub mod TilePlaces
+pub mod ViewPlaces
+pub mod MadeFor
+pub mod OtherViews
+pub mod UnitSizeFacts

@@ -7,7 +7,7 @@ use Rattle.av1_block.specs.declared.cut.Cut.{Cut}
 use Rattle.av1_block.specs.Cut.{LiesIn, cut_of, cut_entries, cut_rect, cut_table_cols}
 use Rattle.std.proofs.lemmas.List.{map-append, take-map, drop-map}
 use Rattle.av1_tiling.specs.Views.{view_samples}
-use Rattle.av1_tiling.specs.Frames.{PartFits, stored_rect, cut_rect as cut_at}
+use Rattle.av1_tiling.specs.Frames.{PartFits, stored_rect, part_at as cut_at}
 
 -- a part that fits lies in the stored samples
 pub part_lies : (n : ℕ) (cfg : PlaneConfig) (luma : TileRect) → PartFits cfg luma → n ≡ cfg.stride * cfg.alloc_height

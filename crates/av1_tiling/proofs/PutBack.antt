@@ -1,12 +1,15 @@
 -- Putting back, in numbers.
-use Rattle.std.proofs.Common.{◌≡◌, ℕ, ◌++◌, List, [], ◌∷◌, subst, map, length, take, drop, refl, sym, append-nil, arith}
-use Rattle.std.proofs.lemmas.List.{length-map, drop_all, map-append}
+use Rattle.std.proofs.Common.{◌≡◌, ℕ, zero, suc, ◌+◌, ◌<◌, ◌≤◌, ◌++◌, List, [], ◌∷◌, map, length, get_or, take, drop, refl, sym, ap, subst, ◌∙◌, append-nil, arith}
+use Rattle.std.proofs.Math.ListN.{set, length-take}
+use Rattle.std.proofs.lemmas.List.{length-map, drop_all, map-append, take_more}
 use Rattle.std.proofs.Math.Seq.{take-length}
 use Rattle.av1_block.proofs.Cuts.{map_with_cut, length-with_cut}
 use Rattle.av1_plane.specs.declared.three.Three.{Three}
 use Rattle.av1_block.specs.declared.block.Block.{Block}
+use Rattle.av1_block.specs.declared.me_stats.MEStats.{MEStats}
+use Rattle.av1_block.specs.Rows.{Rows}
 use Rattle.av1_tiling.specs.Views.{View, Part, PlaneView}
-use Rattle.av1_tiling.specs.Puts.{put, put_all, put_cuts, coded_frame, coded_blocks, PartLies, ViewLies}
+use Rattle.av1_tiling.specs.Puts.{Tables, put, put_all, put_cuts, put_in, put_motion, put_view, coded_frame, coded_blocks, coded_motion, coded_tables}
 
 -- as many were written as there were
 pub refilled_whole : {T : Type 0} (n : ℕ) (old new : List T) → length old ≡ n → length new ≡ n → take n (new ++ drop (length new) old) ≡ new
@@ -46,13 +49,66 @@ coded_blocks-push blocks vs v = pushed (λ w. w.blocks) blocks vs v
 pub coded_blocks-none : (blocks : List Block) → coded_blocks blocks [] ≡ blocks
 coded_blocks-none blocks = put_all-none blocks
 
--- where a view lies depends on lengths alone
-pub lies_alike : (f g : Three PlaneView) (n m : ℕ) (v : View) → ViewLies f n v → length g.y.samples ≡ length f.y.samples → length g.u.samples ≡ length f.u.samples → length g.v.samples ≡ length f.v.samples → m ≡ n → ViewLies g m v
-lies_alike f g n m v lies y u w e = record {
-  y = subst (λ k. PartLies k v.ts.rec.y) (sym y) lies.y;
-  u = subst (λ k. PartLies k v.ts.rec.u) (sym u) lies.u;
-  v = subst (λ k. PartLies k v.ts.rec.v) (sym w) lies.v;
-  blocks = subst (λ k. PartLies k v.blocks) (sym e) lies.blocks;
+-- tables with nothing put back
+pub coded_tables-none : (tables : Tables) → coded_tables tables [] ≡ tables
+unfolding coded_motion
+coded_tables-none tables = λ i. record {
+  rec = coded_frame-none tables.rec i;
+  motion = tables.motion;
+  blocks = record tables.blocks { entries = coded_blocks-none tables.blocks.entries i };
 }
 
-pub ruleset tiles = (coded_frame-none, coded_frame-push, coded_blocks-none, coded_blocks-push)
+coded_motion-push : (tables : List (Rows MEStats)) (vs : List View) (v : View) → coded_motion tables (vs ++ v ∷ []) ≡ put_motion (coded_motion tables vs) v.ts.me_stats
+unfolding coded_motion
+coded_motion-push tables [] v = refl
+coded_motion-push tables (w ∷ vs) v = coded_motion-push (put_motion tables w.ts.me_stats) vs v
+
+-- one more view put back
+pub coded_tables-push : (tables : Tables) (vs : List View) (v : View) → coded_tables tables (vs ++ v ∷ []) ≡ put_view (coded_tables tables vs) v
+coded_tables-push tables vs v = λ i. record {
+  rec = coded_frame-push tables.rec vs v i;
+  motion = coded_motion-push tables.motion vs v i;
+  blocks = record tables.blocks { entries = coded_blocks-push tables.blocks.entries vs v i };
+}
+
+-- parts put back into tables one after another: those before i
+pub put_motion-none : (tables : List (Rows MEStats)) → put_motion tables [] ≡ tables
+unfolding put_motion
+put_motion-none [] = refl
+put_motion-none (table ∷ tables) = refl
+
+-- a table of no earlier part is as it was
+pub put_motion-beyond : (tables : List (Rows MEStats)) (parts : List (Part MEStats)) (k : ℕ) (d : Rows MEStats) → length parts ≤ k → get_or (put_motion tables parts) k d ≡ get_or tables k d
+unfolding put_motion
+put_motion-beyond [] parts k d l = refl
+put_motion-beyond (table ∷ tables) [] k d l = refl
+put_motion-beyond (table ∷ tables) (part ∷ parts) zero d l = absurd (omega arith)
+put_motion-beyond (table ∷ tables) (part ∷ parts) (suc k) d l = put_motion-beyond tables parts k d (omega arith)
+
+-- the next table with its part
+pub put_motion-push : (tables : List (Rows MEStats)) (parts : List (Part MEStats)) (part : Part MEStats) (d : Rows MEStats) → length parts < length tables
+    → put_motion tables (parts ++ part ∷ []) ≡ set (put_motion tables parts) (length parts) (put_in (get_or tables (length parts) d) part)
+unfolding put_motion
+put_motion-push [] parts part d l = absurd (omega arith)
+put_motion-push (table ∷ tables) [] part d l = ap (λ rest. put_in table part ∷ rest) (put_motion-none tables)
+put_motion-push (table ∷ tables) (p ∷ parts) part d l = ap (λ rest. put_in table p ∷ rest) (put_motion-push tables parts part d (omega arith))
+
+-- a turn of the loop over the tables
+pub put_motion_step : (old now : List (Rows MEStats)) (parts : List (Part MEStats)) (i : ℕ) (t new : Rows MEStats) (p : Part MEStats) → i < length parts → length parts ≡ length old
+    → now ≡ put_motion old (take i parts) → p ≡ get_or parts i p → new ≡ put_in (get_or now i t) p → set now i new ≡ put_motion old (take (i + 1) parts)
+put_motion_step old now parts i t new p l long e is made =
+    let short : length (take i parts) ≡ i = omega (arith, length-take i parts) in
+    let table : get_or now i t ≡ get_or old i t = ap (λ xs. get_or xs i t) e ∙ put_motion-beyond old (take i parts) i t (omega arith) in
+    let pushed : put_motion old (take i parts ++ p ∷ []) ≡ set (put_motion old (take i parts)) i (put_in (get_or old i t) p) =
+    subst (λ n. put_motion old (take i parts ++ p ∷ []) ≡ set (put_motion old (take i parts)) n (put_in (get_or old n t) p)) short (put_motion-push old (take i parts) p t (omega arith)) in
+    let entry : new ≡ put_in (get_or old i t) p = made ∙ ap (λ m. put_in m p) table in
+    let more : take i parts ++ p ∷ [] ≡ take (i + 1) parts = ap (λ q. take i parts ++ q ∷ []) is ∙ sym (take_more parts i p l) in
+    (λ j. set (e j) i (entry j)) ∙ (sym pushed ∙ ap (put_motion old) more)
+
+pub length-put_motion : (tables : List (Rows MEStats)) (parts : List (Part MEStats)) → length (put_motion tables parts) ≡ length tables
+unfolding put_motion
+length-put_motion [] parts = refl
+length-put_motion (table ∷ tables) [] = refl
+length-put_motion (table ∷ tables) (part ∷ parts) = omega (arith, length-put_motion tables parts)
+
+pub ruleset tiles = (coded_tables-none, coded_tables-push)

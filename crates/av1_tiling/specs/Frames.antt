@@ -1,8 +1,7 @@
 -- What the filters and the coder take a frame to be: what stays while it is coded, what changes, and the conditions
 -- under which both fit together. Samples are numbers, and no storage is in it.
-use Rattle.std.specs.Prelude.{ℕ, zero, suc, ℤ, pos, replicate, ◌+◌, ◌*◌, ◌/◌, ◌^◌, ◌<◌, ◌≤◌, ◌≡◌, ◌==◌, ◌||◌, ◌⊎◌, Bool, true, false, List, [], ◌∷◌, ◌++◌, All, Some, if◌then◌else◌}
+use Rattle.std.specs.Prelude.{ℕ, zero, suc, ℤ, pos, replicate, ◌+◌, ◌*◌, ◌/◌, ◌^◌, ◌<◌, ◌≤◌, ◌≡◌, ◌==◌, ◌||◌, ◌⊎◌, Bool, true, false, IsTrue, List, [], ◌∷◌, ◌++◌, length, map, All, Some, if◌then◌else◌}
 use Rattle.std.specs.Int.{div_ceil}
-use Rattle.std.specs.Arc.{arc_value}
 use Rattle.av1_plane.specs.Numbers.{InDepth}
 use Rattle.av1_plane.specs.Layout.{frame_layout, at, rounded}
 use Rattle.av1_plane.specs.declared.three.Three.{Three}
@@ -11,17 +10,21 @@ use Rattle.av1_plane.specs.declared.sampling.ChromaSampling.{ChromaSampling}
 use Rattle.av1_plane.specs.declared.sampling.ChromaSampling.TheVariants.{Cs422}
 use Rattle.av1_plane.specs.declared.tile_rect.TileRect.{TileRect}
 use Rattle.av1_block.specs.declared.block.Block.{Block}
+use Rattle.av1_block.specs.declared.me_stats.MEStats.{MEStats}
+use Rattle.av1_block.specs.Rows.{Rows}
 use Rattle.av1_block.specs.Cut.{cut_of}
 use Rattle.av1_tiling.specs.declared.deblock_state.DeblockState.{DeblockState}
 use Rattle.av1_tiling.specs.Deblock.{default_deblock}
+use Rattle.av1_tiling.specs.declared.segmentation_state.SegmentationState.{SegmentationState}
+use Rattle.av1_tiling.specs.Segmentation.{default_segmentation}
+use Rattle.av1_tiling.specs.Motion.{blank_motion}
 use Rattle.av1_tiling.specs.declared.sequence.Sequence.{Sequence}
 use Rattle.av1_tiling.specs.declared.frame_invariants.FrameType.{FrameType}
-use Rattle.av1_tiling.specs.declared.frame_invariants.FrameInvariants.{FrameInvariants}
-use Rattle.av1_tiling.specs.declared.frame_state.FrameState.{FrameState}
 use Rattle.av1_tiling.specs.declared.tiling_info.TilingInfo.{TilingInfo}
-use Rattle.av1_tiling.specs.Grid.{grid, round_up}
-use Rattle.av1_tiling.specs.TileRects.{tile_superblock, tile_luma, tile_blocks, block_columns, block_rows}
-use Rattle.av1_tiling.specs.Views.{PlaneView, Part, TileState, View, view_plane, view_frame}
+use Rattle.av1_tiling.specs.Grid.{grid, superblock_log2, IsBuiltSide}
+use Rattle.av1_plane.specs.Area.{decimated_tile}
+use Rattle.av1_tiling.specs.TileRects.{samples_rect, motion_rect, tile_superblock, tile_luma, tile_blocks, block_columns, block_rows}
+use Rattle.av1_tiling.specs.Views.{PlaneView, Part, TileState, View, IsFullTable}
 
 -- what stays while a frame is coded
 pub record Parameters : Type 0 where
@@ -45,29 +48,6 @@ pub record Parameters : Type 0 where
   pub render_height : ℕ
   pub refresh_frame_flags : ℕ
 
-abbrev pub parameters : {X : Type 0} → FrameInvariants X → Parameters
-parameters fi = record {
-  sequence = fi.sequence;
-  width = fi.width;
-  height = fi.height;
-  sb_width = fi.sb_width;
-  sb_height = fi.sb_height;
-  w_in_b = fi.w_in_b;
-  h_in_b = fi.h_in_b;
-  frame_type = fi.frame_type;
-  base_q_idx = fi.base_q_idx;
-  ac_quantizer = fi.ac_quantizer;
-  cdef_damping = fi.cdef_damping;
-  cdef_y_strengths = fi.cdef_y_strengths;
-  cdef_uv_strengths = fi.cdef_uv_strengths;
-  fast_deblock = fi.fast_deblock;
-  disable_frame_end_update_cdf = fi.disable_frame_end_update_cdf;
-  order_hint = fi.order_hint;
-  render_width = fi.render_width;
-  render_height = fi.render_height;
-  refresh_frame_flags = fi.refresh_frame_flags;
-}
-
 -- what changes
 pub record State : Type 0 where
   pub input : Three PlaneView
@@ -77,17 +57,14 @@ pub record State : Type 0 where
   pub context_update_tile_id : ℕ
   pub max_tile_size_bytes : ℕ
   pub deblock : DeblockState
+  pub segmentation : SegmentationState
+  pub frame_me_stats : List (Rows MEStats)
 
-abbrev pub view_state : {X : Type 0} → (X → ℤ) → FrameState X → State
-view_state number fs = record {
-  input = view_frame number (arc_value fs.input);
-  input_hres = view_plane number (arc_value fs.input_hres);
-  input_qres = view_plane number (arc_value fs.input_qres);
-  rec = view_frame number (arc_value fs.rec);
-  context_update_tile_id = fs.context_update_tile_id;
-  max_tile_size_bytes = fs.max_tile_size_bytes;
-  deblock = fs.deblock;
-}
+-- eight tables of motion records, one for each reference, with these sides
+pub record AreMotionTables (cols rows : ℕ) (tables : List (Rows MEStats)) : Type 0 where
+  pub count : length tables ≡ 8
+  pub sides : All (λ t. (t.cols ≡ cols) × (t.rows ≡ rows)) tables
+  pub full : All IsFullTable tables
 
 -- the sample type of a bit depth: bytes at 8 bits, else words
 abbrev pub FitsDepth : (limit depth : ℕ) → Type 0
@@ -97,11 +74,16 @@ abbrev pub is_422 : ChromaSampling → Bool
 is_422 Cs422 = true
 is_422 sampling = false
 
+-- the logarithm of the side of its superblocks
+abbrev pub superblock_side_log2 : Parameters → ℕ
+superblock_side_log2 p = superblock_log2 p.sequence.use_128x128_superblock
+
 -- the frame's tiling is the grid of its sides at some rate and for some wanted tiles
 abbrev pub IsTiling : Parameters → Type 0
 IsTiling p =
     (num : ℕ) × (den : ℕ) × (cols : ℕ) × (rows : ℕ)
-    × (grid 6 p.width p.height num den cols rows (is_422 p.sequence.chroma_sampling) ≡ Some p.sequence.tiling)
+    × (grid (superblock_side_log2 p) p.width p.height num den cols rows (is_422 p.sequence.chroma_sampling)
+    ≡ Some p.sequence.tiling)
 
 -- the parameters belong to one frame, whose samples are below limit
 pub record IsFrame (limit : ℕ) (p : Parameters) : Type 0 where
@@ -111,12 +93,13 @@ pub record IsFrame (limit : ℕ) (p : Parameters) : Type 0 where
   pub superblock : p.sequence.use_128x128_superblock ≡ false
   pub columns : p.w_in_b ≡ rounded p.width / 4
   pub rows : p.h_in_b ≡ rounded p.height / 4
-  pub superblock_columns : p.sb_width ≡ div_ceil p.width 64
-  pub superblock_rows : p.sb_height ≡ div_ceil p.height 64
+  pub superblock_columns : p.sb_width ≡ div_ceil p.width (2 ^ superblock_side_log2 p)
+  pub superblock_rows : p.sb_height ≡ div_ceil p.height (2 ^ superblock_side_log2 p)
   pub y_strengths : All (λ s. s ≤ 63) p.cdef_y_strengths
   pub uv_strengths : All (λ s. s ≤ 63) p.cdef_uv_strengths
   pub damping : (3 ≤ p.cdef_damping) × (p.cdef_damping ≤ 6)
   pub tiling : IsTiling p
+  pub large_units : IsTrue p.sequence.enable_large_lru → IsTrue p.sequence.enable_restoration → (2 ≤ p.width) × (2 ≤ p.height)
 
 -- the layouts of a frame's planes
 abbrev pub layouts : Three PlaneView → Three PlaneConfig
@@ -135,7 +118,18 @@ pub record IsStateFor (p : Parameters) (s : State) : Type 0 where
   pub y_range : IsInRange (2 ^ p.sequence.bit_depth) s.input.y
   pub u_range : IsInRange (2 ^ p.sequence.bit_depth) s.input.u
   pub v_range : IsInRange (2 ^ p.sequence.bit_depth) s.input.v
+  pub motion : AreMotionTables p.w_in_b p.h_in_b s.frame_me_stats
   pub shift : s.deblock.block_delta_shift ≤ 3
+
+-- a block table is made for a frame
+pub record AreBlocksFor (p : Parameters) (table : Rows Block) : Type 0 where
+  pub columns : table.cols ≡ p.w_in_b
+  pub rows : table.rows ≡ p.h_in_b
+
+-- a state and a block table are
+pub record IsMadeFor (p : Parameters) (s : State) (table : Rows Block) : Type 0 where
+  pub state : IsStateFor p s
+  pub blocks : AreBlocksFor p table
 
 -- planes that can be the input of a frame
 pub record IsInputFor (p : Parameters) (f : Three PlaneView) : Type 0 where
@@ -162,34 +156,44 @@ start p input hres qres = record {
   context_update_tile_id = 0;
   max_tile_size_bytes = 0;
   deblock = default_deblock;
+  segmentation = default_segmentation;
+  frame_me_stats = replicate 8 (blank_motion p.w_in_b p.h_in_b);
 }
 
 -- no rectangle
 abbrev pub no_rect : TileRect
 no_rect = record { x = 0; y = 0; width = 0; height = 0 }
 
+-- a rectangle so many columns and rows further on
+abbrev pub shifted_rect : ℕ → ℕ → TileRect → TileRect
+shifted_rect x y rect = record rect { x = x + rect.x; y = y + rect.y }
+
 -- where a rectangle of luma samples lies in the stored rows of a plane; an empty plane has none of it
 abbrev pub stored_rect : PlaneConfig → TileRect → TileRect
 stored_rect cfg luma =
     if (cfg.width == 0) || (cfg.height == 0) then no_rect
-    else record {
-      x = cfg.xorigin + luma.x / 2 ^ cfg.xdec;
-      y = cfg.yorigin + luma.y / 2 ^ cfg.ydec;
-      width = luma.width / 2 ^ cfg.xdec;
-      height = luma.height / 2 ^ cfg.ydec;
-    }
+    else shifted_rect cfg.xorigin cfg.yorigin (decimated_tile luma cfg.xdec cfg.ydec)
 
 -- a rectangle of a list of rows, cut out
-abbrev pub cut_rect : {E : Type 0} → List E → ℕ → TileRect → Part E
-cut_rect table cols rect = record { rect = rect; table_cols = cols; entries = cut_of table cols rect.x rect.y rect.width rect.height }
+abbrev pub part_at : {E : Type 0} → List E → ℕ → TileRect → Part E
+part_at table cols rect = record { rect = rect; table_cols = cols; entries = cut_of table cols rect.x rect.y rect.width rect.height }
 
 -- the part of a plane that a rectangle of luma samples covers
 abbrev pub plane_part : PlaneView → TileRect → Part ℤ
-plane_part p luma = cut_rect p.samples p.cfg.stride (stored_rect p.cfg luma)
+plane_part p luma = part_at p.samples p.cfg.stride (stored_rect p.cfg luma)
 
 -- the parts of all planes
 abbrev pub frame_parts : Three PlaneView → TileRect → Three (Part ℤ)
 frame_parts f luma = record { y = plane_part f.y luma; u = plane_part f.u luma; v = plane_part f.v luma }
+
+-- the parts of tables of motion records
+abbrev pub motion_parts : List (Rows MEStats) → TileRect → List (Part MEStats)
+motion_parts tables rect = map (λ t. part_at t.entries t.cols rect) tables
+
+-- a table holds a rectangle
+pub record HoldsRect {E : Type 0} (rect : TileRect) (table : Rows E) : Type 0 where
+  pub across : rect.x + rect.width ≤ table.cols
+  pub down : rect.y + rect.height ≤ table.rows
 
 -- that part is stored
 pub record PartFits (cfg : PlaneConfig) (luma : TileRect) : Type 0 where
@@ -200,22 +204,17 @@ pub record PartFits (cfg : PlaneConfig) (luma : TileRect) : Type 0 where
   pub x : cfg.xorigin + luma.x < 2 ^ 32
   pub y : cfg.yorigin + luma.y < 2 ^ 32
 
--- the tile of these luma sides lies in a frame with these planes
-pub record LiesInFrame (f : Three PlaneView) (superblock : ℕ × ℕ) (width height : ℕ) : Type 0 where
+-- the tile with this first superblock and these luma sides lies in the frame of a state
+pub record LiesInFrame (s : State) (superblock : ℕ × ℕ) (sb_size_log2 width height : ℕ) : Type 0 where
   pub frame_width : ℕ
   pub frame_height : ℕ
   pub sampling : ChromaSampling
-  pub layout : layouts f ≡ frame_layout frame_width frame_height sampling
+  pub layout : layouts s.rec ≡ frame_layout frame_width frame_height sampling
+  pub motion : AreMotionTables (rounded frame_width / 4) (rounded frame_height / 4) s.frame_me_stats
   pub width_limit : frame_width ≤ 65536
   pub height_limit : frame_height ≤ 65536
-  pub wide : superblock.0 * 64 + width ≤ rounded frame_width
-  pub high : superblock.1 * 64 + height ≤ rounded frame_height
-
--- the luma samples of a tile's view: its own, rounded up to whole superblocks
-abbrev pub samples_rect : ℕ × ℕ → (sb_size_log2 width height : ℕ) → TileRect
-samples_rect superblock sb_size_log2 width height =
-    let side = 2 ^ sb_size_log2 in
-    record { x = superblock.0 * side; y = superblock.1 * side; width = round_up width side; height = round_up height side }
+  pub wide : superblock.0 * 2 ^ sb_size_log2 + width ≤ rounded frame_width
+  pub high : superblock.1 * 2 ^ sb_size_log2 + height ≤ rounded frame_height
 
 -- what a tile is coded from whose first superblock and luma sides are these
 abbrev pub tile_state : State → ℕ × ℕ → (sb_size_log2 width height : ℕ) → TileState
@@ -234,14 +233,16 @@ tile_state s superblock sb_size_log2 width height =
       input_hres = s.input_hres;
       input_qres = s.input_qres;
       deblock = s.deblock;
+      segmentation = s.segmentation;
       rec = frame_parts s.rec (samples_rect superblock sb_size_log2 width height);
+      me_stats = motion_parts s.frame_me_stats (motion_rect superblock sb_size_log2 width height);
     }
 
 -- the starting view of tile n: what the state and the block table hold inside its rectangles
 abbrev pub view_of : TilingInfo → State → List Block → ℕ → View
 view_of t s blocks n = record {
   ts = tile_state s (tile_superblock t n) t.sb_size_log2 (tile_luma t n).width (tile_luma t n).height;
-  blocks = cut_rect blocks (block_columns t) (tile_blocks t n);
+  blocks = part_at blocks (block_columns t) (tile_blocks t n);
   frame_cols = block_columns t;
   frame_rows = block_rows t;
 }
@@ -254,8 +255,8 @@ views_below t s blocks (suc n) = views_below t s blocks n ++ view_of t s blocks 
 abbrev pub views : TilingInfo → State → List Block → List View
 views t s blocks = views_below t s blocks (t.cols * t.rows)
 
--- the tiling of some frame whose planes these are and whose block table has these sides
-pub record IsTilingOf (t : TilingInfo) (f : Three PlaneView) (cols rows : ℕ) : Type 0 where
+-- the tiling of some frame whose state this is and whose block table has these sides
+pub record IsTilingOf (t : TilingInfo) (s : State) (cols rows : ℕ) : Type 0 where
   pub width : ℕ
   pub height : ℕ
   pub num : ℕ
@@ -263,7 +264,9 @@ pub record IsTilingOf (t : TilingInfo) (f : Three PlaneView) (cols rows : ℕ) :
   pub target_cols : ℕ
   pub target_rows : ℕ
   pub sampling : ChromaSampling
-  pub tiling : grid 6 width height num den target_cols target_rows (is_422 sampling) ≡ Some t
-  pub layout : layouts f ≡ frame_layout width height sampling
+  pub tiling : grid t.sb_size_log2 width height num den target_cols target_rows (is_422 sampling) ≡ Some t
+  pub built : IsBuiltSide t.sb_size_log2
+  pub layout : layouts s.rec ≡ frame_layout width height sampling
+  pub motion : AreMotionTables cols rows s.frame_me_stats
   pub wide : cols ≡ block_columns t
   pub high : rows ≡ block_rows t

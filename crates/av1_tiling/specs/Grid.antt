@@ -1,9 +1,18 @@
 -- The tile grid of a frame (AV1 specification, section 5.9.15), for superblocks of side 2 ^ s, s being 6
 -- or 7. The limit on the rate of samples of a tile is that of the specification's Annex A.
-use Rattle.std.specs.Prelude.{ℕ, Bool, Option, Some, None, ◌-◌, ◌*◌, ◌/◌, ◌^◌, ◌==◌, ◌&&◌, ◌||◌, nat_le, nat_lt, min, max, if◌then◌else◌}
+use Rattle.std.specs.Prelude.{ℕ, Bool, true, false, Option, Some, None, ◌≡◌, ◌-◌, ◌*◌, ◌/◌, ◌^◌, ◌==◌, ◌&&◌, ◌||◌, nat_le, nat_lt, min, max, if◌then◌else◌}
 use Rattle.std.specs.Int.{div_ceil}
 use Rattle.av1_tiling.specs.Least.{least, tile_log2}
 use Rattle.av1_tiling.specs.declared.tiling_info.TilingInfo.{TilingInfo}
+
+-- the logarithm of a superblock's side: whether it has 128 luma samples or 64
+abbrev pub superblock_log2 : Bool → ℕ
+superblock_log2 true = 7
+superblock_log2 false = 6
+
+-- frames are coded with superblocks of 64 samples so far
+abbrev pub IsBuiltSide : ℕ → Type 0
+IsBuiltSide log2 = log2 ≡ 6
 
 -- n rounded up to a multiple of d
 abbrev pub round_up : ℕ → ℕ → ℕ

@@ -1,5 +1,11 @@
 -- What holds of every tiling.
-use Rattle.std.specs.Prelude.{ℕ, Bool, Some, ◌≡◌, ◌⊎◌, ◌*◌, ◌/◌, ◌%◌, ◌^◌, ◌≤◌}
+use Rattle.av1_block.specs.declared.block.Block.{Block}
+use Rattle.av1_tiling.specs.Views.{Part, View, SameShape, AreFull}
+use Rattle.av1_tiling.specs.Frames.{State, IsTilingOf, view_of}
+use Rattle.av1_tiling.specs.Puts.{put, put_all, put_cuts, put_motion}
+use Rattle.av1_tiling.specs.Coded.{HasParts, IsTablePart, ArePartsApart}
+use Rattle.std.specs.List.Sorted.{IsPermutation}
+use Rattle.std.specs.Prelude.{ℕ, List, length, All, Bool, Some, ◌≡◌, ◌≢◌, ◌⊎◌, ◌*◌, ◌/◌, ◌%◌, ◌^◌, ◌<◌, ◌≤◌}
 use Rattle.std.specs.Int.{div_ceil}
 use Rattle.av1_tiling.specs.Least.{tile_log2}
 use Rattle.av1_tiling.specs.Grid.{grid}
@@ -44,3 +50,29 @@ CutsUnits t =
 -- the logarithms are those of the numbers of columns and rows
 abbrev pub CountsByLog2 : TilingInfo → Type 0
 CountsByLog2 t = (tile_log2 1 t.cols ≡ t.tile_cols_log2) × (tile_log2 1 t.rows ≡ t.tile_rows_log2)
+
+-- a table has at most one list of entries that has these parts
+abbrev pub PartsAreUnique : Type 0 → Type 0
+PartsAreUnique E = (cols : ℕ) (parts : List (Part E)) (old new other : List E) → HasParts cols parts old new → HasParts cols parts old other → new ≡ other
+
+-- parts with no place in common, put in one after another, are all there
+abbrev pub PutsHaveParts : Type 0 → Type 0
+PutsHaveParts E = (cols : ℕ) (parts : List (Part E)) (table : List E) → All (IsTablePart (length table) cols) parts → ArePartsApart parts
+    → HasParts cols parts table (put_all table parts)
+
+-- and in every order they make one table
+abbrev pub PutsInAnyOrder : Type 0 → Type 0
+PutsInAnyOrder E = (cols : ℕ) (parts other : List (Part E)) (table : List E) → All (IsTablePart (length table) cols) parts → ArePartsApart parts
+    → IsPermutation parts other → put_all table parts ≡ put_all table other
+
+-- a state with what a view has of it put back
+abbrev pub with_view : State → View → State
+with_view s v = record s { rec = put_cuts s.rec v.ts.rec; frame_me_stats = put_motion s.frame_me_stats v.ts.me_stats }
+
+-- what is written through the view of one tile changes the view of no other
+abbrev pub OthersStay : Type 0
+OthersStay =
+    (t : TilingInfo) (s : State) (blocks : List Block) (cols rows m n : ℕ) (written : View)
+    → IsTilingOf t s cols rows → AreFull s.rec → length blocks ≡ cols * rows
+    → m < t.cols * t.rows → n < t.cols * t.rows → m ≢ n → SameShape (view_of t s blocks m) written
+    → view_of t (with_view s written) (put blocks written.blocks) n ≡ view_of t s blocks n

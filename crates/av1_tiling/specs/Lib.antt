@@ -1,10 +1,16 @@
 pub mod Deblock
+pub mod Segmentation
 pub mod Grid
 pub mod Least
 pub mod TileRects
 pub mod Views
+pub mod Motion
 pub mod Frames
 pub mod Laws
 pub mod Partition
 pub mod Puts
+pub mod Coded
 pub mod Tiles
+pub mod SgrSets
+pub mod Restoration
+pub mod UnitSizes

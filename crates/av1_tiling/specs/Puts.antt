@@ -1,14 +1,35 @@
--- Parts that were cut out of a table, put back into it, and the planes and blocks of a frame with the parts of several
--- tiles put back.
-use Rattle.std.specs.Prelude.{ℕ, ℤ, List, [], ◌∷◌, map, length}
+-- Parts that were cut out of a table, put back into it, and the planes, motion records and blocks of a frame with the
+-- parts of several tiles put back.
+use Rattle.std.specs.Prelude.{ℕ, ℤ, List, [], ◌∷◌, map}
+use Rattle.av1_plane.specs.declared.frame.Frame.{Frame}
 use Rattle.av1_plane.specs.declared.three.Three.{Three}
 use Rattle.av1_block.specs.declared.block.Block.{Block}
+use Rattle.av1_block.specs.declared.me_stats.MEStats.{MEStats}
+use Rattle.av1_block.specs.Rows.{Rows}
 use Rattle.av1_block.specs.Cut.{LiesIn, with_cut}
-use Rattle.av1_tiling.specs.Views.{View, Part, PlaneView}
+use Rattle.av1_tiling.specs.Views.{View, Part, PlaneView, view_frame}
 
 -- a table with a part put back where it was cut out
 abbrev pub put : {E : Type 0} → List E → Part E → List E
 put table part = with_cut table part.table_cols part.rect.x part.rect.y part.rect.width part.rect.height part.entries
+
+-- a table with a part put back at its place
+abbrev pub put_in : {E : Type 0} → Rows E → Part E → Rows E
+put_in table part = record table { entries = put table.entries part }
+
+-- the tables that tiles are cut from and put back into
+pub record Tables : Type 0 where
+  pub rec : Three PlaneView
+  pub motion : List (Rows MEStats)
+  pub blocks : Rows Block
+
+-- a frame's planes, motion records and blocks
+abbrev pub tables_of : {X : Type 0} → (X → ℤ) → Frame X → List (Rows MEStats) → Rows Block → Tables
+tables_of number f me blocks = record {
+  rec = view_frame number f;
+  motion = me;
+  blocks = blocks;
+}
 
 -- three planes with a part each put back
 abbrev pub put_cuts : Three PlaneView → Three (Part ℤ) → Three PlaneView
@@ -16,6 +37,20 @@ put_cuts f parts = record {
   y = record f.y { samples = put f.y.samples parts.y };
   u = record f.u { samples = put f.u.samples parts.u };
   v = record f.v { samples = put f.v.samples parts.v };
+}
+
+-- tables with a part each put back
+unfoldable pub put_motion : List (Rows MEStats) → List (Part MEStats) → List (Rows MEStats)
+put_motion [] parts = []
+put_motion (table ∷ tables) [] = table ∷ tables
+put_motion (table ∷ tables) (part ∷ parts) = put_in table part ∷ put_motion tables parts
+
+-- all tables with a view put back
+abbrev pub put_view : Tables → View → Tables
+put_view tables v = record {
+  rec = put_cuts tables.rec v.ts.rec;
+  motion = put_motion tables.motion v.ts.me_stats;
+  blocks = put_in tables.blocks v.blocks;
 }
 
 -- one part after another
@@ -38,13 +73,19 @@ coded_frame f views = record {
 abbrev pub coded_blocks : List Block → List View → List Block
 coded_blocks blocks views = put_all blocks (map (λ v. v.blocks) views)
 
+-- the motion tables with the records of these views put back, tile after tile
+unfoldable pub coded_motion : List (Rows MEStats) → List View → List (Rows MEStats)
+coded_motion tables [] = tables
+coded_motion tables (v ∷ views) = coded_motion (put_motion tables v.ts.me_stats) views
+
+-- all tables with these views put back
+abbrev pub coded_tables : Tables → List View → Tables
+coded_tables tables views = record {
+  rec = coded_frame tables.rec views;
+  motion = coded_motion tables.motion views;
+  blocks = record tables.blocks { entries = coded_blocks tables.blocks.entries views };
+}
+
 -- a part lies in a table of n entries
 abbrev pub PartLies : {E : Type 0} → ℕ → Part E → Type 0
 PartLies n part = LiesIn n part.table_cols part.rect.x part.rect.y part.rect.width part.rect.height
-
--- the parts of a view lie in the planes and in a block table of n entries
-pub record ViewLies (f : Three PlaneView) (n : ℕ) (view : View) : Type 0 where
-  pub y : PartLies (length f.y.samples) view.ts.rec.y
-  pub u : PartLies (length f.u.samples) view.ts.rec.u
-  pub v : PartLies (length f.v.samples) view.ts.rec.v
-  pub blocks : PartLies n view.blocks

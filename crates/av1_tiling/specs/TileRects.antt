@@ -3,6 +3,7 @@
 use Rattle.std.specs.Prelude.{ℕ, ◌-◌, ◌*◌, ◌/◌, ◌%◌, ◌^◌, min}
 use Rattle.std.specs.Int.{div_ceil}
 use Rattle.av1_plane.specs.declared.tile_rect.TileRect.{TileRect}
+use Rattle.av1_plane.specs.Area.{decimated_tile}
 use Rattle.av1_tiling.specs.Grid.{round_up}
 use Rattle.av1_tiling.specs.declared.tiling_info.TilingInfo.{TilingInfo}
 
@@ -45,23 +46,19 @@ tile_luma t n =
       height = min (t.tile_height_sb * superblock_side t) (t.frame_height - y);
     }
 
--- the luma samples of the tile's view: these sides rounded up to whole superblocks
+-- the luma samples of a view: those of a tile with this first superblock and these luma sides, rounded up to whole superblocks
+abbrev pub samples_rect : ℕ × ℕ → (sb_size_log2 width height : ℕ) → TileRect
+samples_rect superblock sb_size_log2 width height =
+    let side = 2 ^ sb_size_log2 in
+    record { x = superblock.0 * side; y = superblock.1 * side; width = round_up width side; height = round_up height side }
+
+-- the luma samples of the tile's view
 abbrev pub tile_samples : TilingInfo → ℕ → TileRect
-tile_samples t n = let luma = tile_luma t n in record {
-  x = luma.x;
-  y = luma.y;
-  width = round_up luma.width (superblock_side t);
-  height = round_up luma.height (superblock_side t);
-}
+tile_samples t n = samples_rect (tile_superblock t n) t.sb_size_log2 (tile_luma t n).width (tile_luma t n).height
 
 -- the samples of the tile's view in a plane of this decimation
 abbrev pub tile_plane : TilingInfo → ℕ → ℕ → ℕ → TileRect
-tile_plane t xdec ydec n = let samples = tile_samples t n in record {
-  x = samples.x / 2 ^ xdec;
-  y = samples.y / 2 ^ ydec;
-  width = samples.width / 2 ^ xdec;
-  height = samples.height / 2 ^ ydec;
-}
+tile_plane t xdec ydec n = decimated_tile (tile_samples t n) xdec ydec
 
 -- the sides of the tables of blocks and of motion, whose units are 4 by 4 luma samples
 abbrev pub block_columns : TilingInfo → ℕ
@@ -83,9 +80,15 @@ tile_blocks t n =
       height = min (t.tile_height_sb * side) (block_rows t - y);
     }
 
--- its motion records stand at the same places
+-- the motion records of a tile with this first superblock and these luma sides
+abbrev pub motion_rect : ℕ × ℕ → (sb_size_log2 width height : ℕ) → TileRect
+motion_rect superblock sb_size_log2 width height =
+    let side = 2 ^ sb_size_log2 / 4 in
+    record { x = superblock.0 * side; y = superblock.1 * side; width = width / 4; height = height / 4 }
+
+-- the tile's motion records
 abbrev pub tile_motion : TilingInfo → ℕ → TileRect
-tile_motion t n = tile_blocks t n
+tile_motion t n = motion_rect (tile_superblock t n) t.sb_size_log2 (tile_luma t n).width (tile_luma t n).height
 
 -- the tile's units of a plane with columns by rows of them, a unit having 2 ^ h_shift by 2 ^ v_shift superblocks
 abbrev pub tile_units : TilingInfo → (h_shift v_shift columns rows : ℕ) → ℕ → TileRect

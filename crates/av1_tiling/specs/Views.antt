@@ -1,14 +1,18 @@
 -- What a tile coder sees of a frame, as plain data: samples are numbers, and no storage is in it.
-use Rattle.std.specs.Prelude.{ℕ, ℤ, List, map, length, take, drop, ◌++◌, if◌then◌else◌, ◌==◌, ◌≡◌}
+use Rattle.std.specs.List.{AllZip}
+use Rattle.std.specs.Prelude.{ℕ, ℤ, ◌*◌, List, map, length, take, drop, ◌++◌, if◌then◌else◌, ◌==◌, ◌≡◌}
 use Rattle.av1_plane.specs.declared.three.Three.{Three}
 use Rattle.av1_plane.specs.declared.plane.PlaneConfig.{PlaneConfig}
 use Rattle.av1_plane.specs.declared.plane.Plane.{Plane}
 use Rattle.av1_plane.specs.declared.frame.Frame.{Frame}
 use Rattle.av1_block.specs.declared.block.Block.{Block}
+use Rattle.av1_block.specs.declared.me_stats.MEStats.{MEStats}
 use Rattle.av1_plane.specs.declared.tile_rect.TileRect.{TileRect}
 use Rattle.av1_block.specs.declared.cut.Cut.{Cut}
 use Rattle.av1_block.specs.Cut.{cut_entries, cut_rect, cut_table_cols}
+use Rattle.av1_block.specs.Rows.{Rows, refilled}
 use Rattle.av1_tiling.specs.declared.deblock_state.DeblockState.{DeblockState}
+use Rattle.av1_tiling.specs.declared.segmentation_state.SegmentationState.{SegmentationState}
 
 -- a plane: its layout and the numbers of its stored samples
 pub record PlaneView : Type 0 where
@@ -20,6 +24,20 @@ view_plane number p = record { cfg = p.cfg; samples = map number p.samples.items
 
 abbrev pub view_frame : {X : Type 0} → (X → ℤ) → Frame X → Three PlaneView
 view_frame number f = record { y = view_plane number f.planes.y; u = view_plane number f.planes.u; v = view_plane number f.planes.v }
+
+-- a plane has as many samples as its layout says
+abbrev pub IsFull : PlaneView → Type 0
+IsFull p = length p.samples ≡ p.cfg.stride * p.cfg.alloc_height
+
+-- each plane of a frame has
+pub record AreFull (f : Three PlaneView) : Type 0 where
+  pub y : IsFull f.y
+  pub u : IsFull f.u
+  pub v : IsFull f.v
+
+-- a table has an entry for each of its places
+abbrev pub IsFullTable : {E : Type 0} → Rows E → Type 0
+IsFullTable t = length t.entries ≡ t.cols * t.rows
 
 -- a rectangle of a table, cut out: its place, the columns of the table, and its entries row by row
 pub record Part (E : Type 0) : Type 0 where
@@ -37,15 +55,12 @@ view_samples number c = record { rect = cut_rect c; table_cols = cut_table_cols 
 abbrev pub view_cuts : {X : Type 0} → (X → ℤ) → Three (Cut X) → Three (Part ℤ)
 view_cuts number t = record { y = view_samples number t.y; u = view_samples number t.u; v = view_samples number t.v }
 
--- a list with others written over its front, as long as before
-abbrev pub refilled : {E : Type 0} → List E → List E → List E
-refilled old new = take (length old) (new ++ drop (length new) old)
+-- the part with these entries, as many as before
+abbrev pub part_with_entries : {E : Type 0} → Part E → List E → Part E
+part_with_entries p entries = record p { entries = refilled p.entries entries }
 
-abbrev pub with_entries : {E : Type 0} → Part E → List E → Part E
-with_entries p entries = record p { entries = refilled p.entries entries }
-
--- the part of a frame's state that one tile is coded from: the place and the sides of the tile, the input and the
--- deblocking state, which stay, and the samples of the tile, which the coder writes
+-- the part of a frame's state that one tile is coded from: the place and the sides of the tile, the input, copies of the
+-- states of deblocking and segmentation, and the tile's samples and motion records, which are put back
 pub record TileState : Type 0 where
   pub superblock : ℕ × ℕ
   pub sb_size_log2 : ℕ
@@ -59,7 +74,9 @@ pub record TileState : Type 0 where
   pub input_hres : PlaneView
   pub input_qres : PlaneView
   pub deblock : DeblockState
+  pub segmentation : SegmentationState
   pub rec : Three (Part ℤ)
+  pub me_stats : List (Part MEStats)
 
 -- that and the tile's blocks, out of a table with these sides
 pub record View : Type 0 where
@@ -75,13 +92,13 @@ plane_at t pli = if pli == 0 then t.y else if pli == 1 then t.u else t.v
 -- a tile's state with these samples in plane pli
 abbrev pub with_samples : TileState → ℕ → List ℤ → TileState
 with_samples t pli samples =
-    if pli == 0 then record t { rec = record t.rec { y = with_entries t.rec.y samples } }
-    else if pli == 1 then record t { rec = record t.rec { u = with_entries t.rec.u samples } }
-    else record t { rec = record t.rec { v = with_entries t.rec.v samples } }
+    if pli == 0 then record t { rec = record t.rec { y = part_with_entries t.rec.y samples } }
+    else if pli == 1 then record t { rec = record t.rec { u = part_with_entries t.rec.u samples } }
+    else record t { rec = record t.rec { v = part_with_entries t.rec.v samples } }
 
 -- a view with these blocks
 abbrev pub with_blocks : View → List Block → View
-with_blocks v blocks = record v { blocks = with_entries v.blocks blocks }
+with_blocks v blocks = record v { blocks = part_with_entries v.blocks blocks }
 
 -- b is a rectangle of the same place and size as a
 pub record SameRect {E : Type 0} (a b : Part E) : Type 0 where
@@ -89,12 +106,12 @@ pub record SameRect {E : Type 0} (a b : Part E) : Type 0 where
   pub table_cols : b.table_cols ≡ a.table_cols
   pub length : length b.entries ≡ length a.entries
 
--- after is before with other samples and blocks, in the same rectangles
+-- after may differ from before in all but its rectangles and the sides of its tables
 pub record SameShape (before after : View) : Type 0 where
-  pub state : after.ts ≡ record before.ts { rec = after.ts.rec }
   pub y : SameRect before.ts.rec.y after.ts.rec.y
   pub u : SameRect before.ts.rec.u after.ts.rec.u
   pub v : SameRect before.ts.rec.v after.ts.rec.v
+  pub motion : AllZip SameRect before.ts.me_stats after.ts.me_stats
   pub blocks : SameRect before.blocks after.blocks
   pub frame_cols : after.frame_cols ≡ before.frame_cols
   pub frame_rows : after.frame_rows ≡ before.frame_rows

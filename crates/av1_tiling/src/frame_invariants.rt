@@ -1,5 +1,5 @@
 use crate::sequence::Sequence;
-use std::marker::PhantomData;
+use std::marker::{Model, PhantomData};
 
 /// Type of a frame (AV1 specification, section 6.8.2).
 #[derive(Clone, Copy, Debug, PartialEq, Eq)]
@@ -35,4 +35,32 @@ pub struct FrameInvariants<T> {
     pub render_height: u32,
     pub refresh_frame_flags: u32,
     pub sample: PhantomData<T>,
+}
+
+impl<T> Model for FrameInvariants<T> {
+    ghost use Rattle.av1_tiling.specs.Frames.{Parameters};
+
+    ghost Value = { Parameters };
+
+    ghost view = { λ fi. record {
+      sequence = fi.sequence;
+      width = fi.width;
+      height = fi.height;
+      sb_width = fi.sb_width;
+      sb_height = fi.sb_height;
+      w_in_b = fi.w_in_b;
+      h_in_b = fi.h_in_b;
+      frame_type = fi.frame_type;
+      base_q_idx = fi.base_q_idx;
+      ac_quantizer = fi.ac_quantizer;
+      cdef_damping = fi.cdef_damping;
+      cdef_y_strengths = fi.cdef_y_strengths;
+      cdef_uv_strengths = fi.cdef_uv_strengths;
+      fast_deblock = fi.fast_deblock;
+      disable_frame_end_update_cdf = fi.disable_frame_end_update_cdf;
+      order_hint = fi.order_hint;
+      render_width = fi.render_width;
+      render_height = fi.render_height;
+      refresh_frame_flags = fi.refresh_frame_flags;
+    } };
 }

@@ -1,6 +1,6 @@
 //! Facts about every tiling that `TilingInfo::from_target_tiles` answers. Each is the contract of a
 //! function that does nothing.
-ghost use Rattle.av1_tiling.specs.Laws.{ForTilings, CutsPlanes, CutsBlocks, CutsMotion, CutsUnits, CountsByLog2};
+ghost use Rattle.av1_tiling.specs.Laws.{ForTilings, CutsPlanes, CutsBlocks, CutsMotion, CutsUnits, CountsByLog2, PartsAreUnique, PutsHaveParts, PutsInAnyOrder, OthersStay};
 
 /// The rectangles of the tiles in a plane have no sample in common, and together are the plane, rounded
 /// up to whole superblocks.
@@ -27,4 +27,24 @@ pub fn tiles_cut_units()
 /// The logarithms of columns and rows are those of their numbers.
 pub fn counts_have_logarithms()
     ensures { ForTilings CountsByLog2 }
+{}
+
+/// What a table has once parts were put into it is said place by place by at most one list.
+pub fn parts_are_unique<E>()
+    ensures { PartsAreUnique E }
+{}
+
+/// Putting parts in one after another is one way to that list, where no two have a place in common.
+pub fn puts_have_parts<E>()
+    ensures { PutsHaveParts E }
+{}
+
+/// Parts that have no place in common may be put back in any order.
+pub fn puts_go_in_any_order<E>()
+    ensures { PutsInAnyOrder E }
+{}
+
+/// Writing through one tile's view changes no other view.
+pub fn other_views_stay()
+    ensures { OthersStay }
 {}

@@ -10,6 +10,10 @@ mod frame_state;
 pub mod laws;
 mod part;
 mod putting;
+mod restoration;
+mod restoration_plane;
+mod restoration_state;
+mod segmentation_state;
 mod sequence;
 #[cfg(test)]
 mod tests;
@@ -21,11 +25,28 @@ mod tile_state;
 mod tiler;
 mod tiling_error;
 mod tiling_info;
+mod unit_sizes;
 
+pub use av1_block::{
+    FrameRestorationUnits, RestorationFilter, RestorationUnit, TileRestorationUnits,
+    TileRestorationUnitsMut,
+};
 pub use deblock_state::DeblockState;
 pub use frame_invariants::{FrameInvariants, FrameType};
 pub use frame_state::FrameState;
 pub use putting::put_back;
+pub use restoration::{
+    IMAGE_WIDTH_MAX, RESTORATION_TILESIZE_MAX_LOG2, RESTORE_NONE, RESTORE_SGRPROJ,
+    RESTORE_SWITCHABLE, RESTORE_WIENER, SGRComplexityLevel, SGRPROJ_MTABLE_BITS,
+    SGRPROJ_PARAMS_BITS, SGRPROJ_PARAMS_S, SGRPROJ_PRJ_BITS, SGRPROJ_PRJ_SUBEXP_K,
+    SGRPROJ_RECIP_BITS, SGRPROJ_RST_BITS, SGRPROJ_SGR_BITS, SGRPROJ_XQD_MAX, SGRPROJ_XQD_MID,
+    SGRPROJ_XQD_MIN, SOLVE_IMAGE_HEIGHT, SOLVE_IMAGE_MAX, SOLVE_IMAGE_SIZE, SOLVE_IMAGE_STRIDE,
+    STRIPE_IMAGE_HEIGHT, STRIPE_IMAGE_MAX, STRIPE_IMAGE_SIZE, STRIPE_IMAGE_STRIDE, WIENER_BITS,
+    WIENER_TAPS_K, WIENER_TAPS_MAX, WIENER_TAPS_MID, WIENER_TAPS_MIN, get_sgr_sets,
+};
+pub use restoration_plane::{RestorationPlane, RestorationPlaneConfig};
+pub use restoration_state::RestorationState;
+pub use segmentation_state::SegmentationState;
 pub use sequence::Sequence;
 pub use tile_context::TileContextMut;
 pub use tile_context_iter::TileContextIterMut;

@@ -1,8 +1,9 @@
-ghost use Rattle.std.specs.Prelude.{◌≡◌, ◌<◌, ◌^◌, IfOk};
-ghost use Rattle.av1_tiling.specs.Views.{view_plane, view_samples, view_frame, view_cuts};
-ghost use Rattle.av1_tiling.specs.Frames.{stored_rect, samples_rect, plane_part, frame_parts, PartFits};
+ghost use Rattle.std.specs.Prelude.{◌≡◌, ◌<◌, ◌^◌, IfOk, All, map};
+ghost use Rattle.av1_tiling.specs.Views.{view_plane, view_samples, view_frame, view_cuts, view_cut};
+ghost use Rattle.av1_tiling.specs.TileRects.{samples_rect, motion_rect};
+ghost use Rattle.av1_tiling.specs.Frames.{stored_rect, plane_part, frame_parts, motion_parts, PartFits, HoldsRect};
 
-use av1_block::Cut;
+use av1_block::{Cut, FrameMEStats, MEStats};
 use av1_plane::{
     Frame, OutOfMemory, Pixel, Plane, PlaneConfig, PlaneSuperBlockOffset, Three, TileRect,
 };
@@ -24,6 +25,20 @@ pub(crate) fn samples_rect(sbo: PlaneSuperBlockOffset, width: usize, height: usi
     }
 }
 
+/// The motion records of a tile's view.
+pub(crate) fn motion_rect(sbo: PlaneSuperBlockOffset, width: usize, height: usize) -> TileRect
+    requires x { sbo.0.x < 2 ^ 20 }
+    requires y { sbo.0.y < 2 ^ 20 }
+    ensures { result ≡ motion_rect (sbo.0.x, sbo.0.y) 6 width height }
+{
+    TileRect {
+        x: sbo.0.x * 16,
+        y: sbo.0.y * 16,
+        width: width / 4,
+        height: height / 4,
+    }
+}
+
 // Where a rectangle of luma samples lies in the stored rows of a plane.
 fn stored_rect(cfg: &PlaneConfig, luma: TileRect) -> TileRect
     requires { PartFits cfg.now luma }
@@ -37,11 +52,12 @@ fn stored_rect(cfg: &PlaneConfig, luma: TileRect) -> TileRect
             height: 0,
         };
     }
+    let rect = luma.decimated(cfg.xdec, cfg.ydec);
     TileRect {
-        x: cfg.xorigin + (luma.x >> cfg.xdec),
-        y: cfg.yorigin + (luma.y >> cfg.ydec),
-        width: luma.width >> cfg.xdec,
-        height: luma.height >> cfg.ydec,
+        x: cfg.xorigin + rect.x,
+        y: cfg.yorigin + rect.y,
+        width: rect.width,
+        height: rect.height,
     }
 }
 
@@ -52,7 +68,8 @@ fn cut_plane<T: Pixel>(
     luma: TileRect,
 ) -> Result<Cut<T>, OutOfMemory>
     requires { PartFits plane.now.cfg luma }
-    ensures { IfOk result (λ cut. view_samples T.number cut ≡ plane_part (view_plane T.number plane.now) luma) }
+    ensures { IfOk result (λ cut.
+        view_samples T.number cut ≡ plane_part (view_plane T.number plane.now) luma) }
 {
     let rect = stored_rect(&plane.cfg, luma);
     Cut::take(alloc, &plane.samples, plane.cfg.stride, rect)
@@ -67,11 +84,29 @@ pub(crate) fn cut_frame<T: Pixel>(
     requires y { PartFits frame.now.planes.y.cfg luma }
     requires u { PartFits frame.now.planes.u.cfg luma }
     requires v { PartFits frame.now.planes.v.cfg luma }
-    ensures { IfOk result (λ cuts. view_cuts T.number cuts ≡ frame_parts (view_frame T.number frame.now) luma) }
+    ensures { IfOk result (λ cuts.
+        view_cuts T.number cuts ≡ frame_parts (view_frame T.number frame.now) luma) }
 {
     Ok(Three {
         y: cut_plane(alloc, &frame.planes.y, luma)?,
         u: cut_plane(alloc, &frame.planes.u, luma)?,
         v: cut_plane(alloc, &frame.planes.v, luma)?,
     })
+}
+
+/// The parts of tables of motion records that a rectangle covers.
+pub(crate) fn cut_motion(
+    alloc: Global,
+    tables: &[FrameMEStats],
+    rect: TileRect,
+) -> Result<Vec<Cut<MEStats>>, OutOfMemory>
+    requires { All (HoldsRect rect) (tables.now) }
+    ensures { IfOk result (λ cuts.
+        map view_cut cuts.items ≡ motion_parts (tables.now) rect) }
+{
+    let mut cuts = Vec::with_capacity(alloc, tables.len())?;
+    for table in tables {
+        cuts.push(Cut::take(alloc, table.entries(), table.cols, rect)?)?;
+    }
+    Ok(cuts)
 }

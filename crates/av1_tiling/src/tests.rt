@@ -1,47 +1,117 @@
-ghost use Rattle.std.specs.Prelude.{◌≡◌, IfOk, pos};
-ghost use Rattle.av1_plane.specs.Layout.{frame_layout};
+ghost use Rattle.std.specs.Prelude.{◌≡◌, IfOk};
 ghost use Rattle.av1_plane.specs.declared.sampling.ChromaSampling.TheVariants.{Cs420};
-ghost use Rattle.av1_tiling.specs.Frames.{view_state, layouts};
+ghost use Rattle.av1_tiling.specs.Frames.{IsFrame, IsStateFor};
 
-use crate::{DeblockState, FrameState, TilingInfo};
+use crate::{FrameInvariants, FrameState, FrameType, Sequence, TileStateMut, TilingInfo};
 use av1_block::FrameBlocks;
-use av1_plane::{ChromaSampling, Frame, FrameAlloc, OutOfMemory, Plane};
+use av1_plane::{
+    ChromaSampling, Frame, FrameAlloc, OutOfMemory, Plane, PlaneSuperBlockOffset, SuperBlockOffset,
+};
 use std::alloc::Global;
+use std::marker::PhantomData;
 use std::sync::Arc;
 use std::test::Fail;
 
 fn is_shared<T: Send + Sync>(_value: &T) {}
 
-// A state of a frame of 160 by 144, all samples zero.
-fn blank_state(alloc: Global) -> Result<FrameState<u8>, OutOfMemory>
-    ensures { IfOk result (λ fs. layouts (view_state pos fs).rec ≡ frame_layout 160 144 Cs420) }
+// A key frame of 160 by 144 in nine tiles.
+fn nine_tiles() -> Result<FrameInvariants<u8>, Fail>
+    ensures frame { IfOk result (λ fi. IsFrame 256 fi) }
+    ensures width { IfOk result (λ fi. fi.width ≡ 160) }
+    ensures height { IfOk result (λ fi. fi.height ≡ 144) }
+    ensures sampling { IfOk result (λ fi. fi.sequence.chroma_sampling ≡ Cs420) }
+    ensures columns { IfOk result (λ fi. fi.w_in_b ≡ 40) }
+    ensures rows { IfOk result (λ fi. fi.h_in_b ≡ 36) }
+{
+    let Ok(tiling) = TilingInfo::from_target_tiles(6, 160, 144, 25, 1, 10, 8, false) else {
+        return Err(Fail::from("no tiling"));
+    };
+    let sequence = Sequence {
+        bit_depth: 8,
+        chroma_sampling: ChromaSampling::Cs420,
+        use_128x128_superblock: false,
+        enable_cdef: false,
+        enable_restoration: false,
+        enable_large_lru: false,
+        tiling,
+    };
+    Ok(FrameInvariants {
+        sequence,
+        width: 160,
+        height: 144,
+        sb_width: 3,
+        sb_height: 3,
+        w_in_b: 40,
+        h_in_b: 36,
+        frame_type: FrameType::KEY,
+        base_q_idx: 100,
+        ac_quantizer: 100,
+        cdef_damping: 3,
+        cdef_y_strengths: [0; 8],
+        cdef_uv_strengths: [0; 8],
+        fast_deblock: true,
+        disable_frame_end_update_cdf: false,
+        order_hint: 0,
+        render_width: 160,
+        render_height: 144,
+        refresh_frame_flags: 0,
+        sample: PhantomData,
+    })
+}
+
+// A state for it, whose input is all zeros.
+fn blank_state(alloc: Global, fi: &FrameInvariants<u8>) -> Result<FrameState<u8>, OutOfMemory>
+    requires frame { IsFrame 256 fi.now }
+    requires width { fi.now.width ≡ 160 }
+    requires height { fi.now.height ≡ 144 }
+    requires sampling { fi.now.sequence.chroma_sampling ≡ Cs420 }
+    ensures { IfOk result (λ fs. IsStateFor fi.now fs) }
 {
     let input: Frame<u8> = Frame::new(alloc, 160, 144, ChromaSampling::Cs420)?;
-    let rec: Frame<u8> = Frame::new(alloc, 160, 144, ChromaSampling::Cs420)?;
     let half: Plane<u8> = Plane::new(alloc, 80, 72, 0, 0, 0, 0)?;
     let quarter: Plane<u8> = Plane::new(alloc, 40, 36, 0, 0, 0, 0)?;
-    Ok(FrameState {
-        input: Arc::new(alloc, input)?,
-        input_hres: Arc::new(alloc, half)?,
-        input_qres: Arc::new(alloc, quarter)?,
-        rec: Arc::new(alloc, rec)?,
-        context_update_tile_id: 0,
-        max_tile_size_bytes: 0,
-        deblock: DeblockState::default(),
-    })
+    FrameState::with_source(
+        alloc,
+        fi,
+        Arc::new(alloc, input)?,
+        Arc::new(alloc, half)?,
+        Arc::new(alloc, quarter)?,
+    )
+}
+
+#[test]
+fn state_starts_blank(rt: HostRuntime) -> Result<(), Fail> {
+    let fs = blank_state(rt.alloc(), &nine_tiles()?)?;
+    assert_eq!(rt; fs.frame_me_stats.len(), 8);
+    assert_eq!(rt; fs.max_tile_size_bytes, 0);
+    assert!(rt; !fs.segmentation.enabled);
+    Ok(())
+}
+
+#[test]
+fn last_tile_is_cut(rt: HostRuntime) -> Result<(), Fail> {
+    let fs = blank_state(rt.alloc(), &nine_tiles()?)?;
+    let sbo = PlaneSuperBlockOffset(SuperBlockOffset { x: 2, y: 2 });
+    let tile = TileStateMut::new(rt.alloc(), &fs, sbo, 6, 32, 16)?;
+    assert_eq!(rt; (tile.sb_width, tile.sb_height), (1, 1));
+    assert_eq!(rt; (tile.mi_width, tile.mi_height), (8, 4));
+    let luma = tile.samples_rect(0);
+    assert_eq!(rt;
+        (luma.x, luma.y, luma.width, luma.height),
+        (216, 216, 64, 64)
+    );
+    Ok(())
 }
 
 #[test]
 fn cuts_nine_tiles(rt: HostRuntime) -> Result<(), Fail> {
     let alloc = rt.alloc();
-    let Ok(tiling) = TilingInfo::from_target_tiles(6, 160, 144, 25, 1, 10, 8, false) else {
-        return Err(Fail::from("no tiling"));
-    };
-    let fs = blank_state(alloc)?;
+    let fi = nine_tiles()?;
+    let fs = blank_state(alloc, &fi)?;
     let blocks = FrameBlocks::new(alloc, 40, 36)?;
-    let tiles = tiling.tile_iter_mut(alloc, &fs, &blocks)?;
+    let tiles = fi.sequence.tiling.tile_iter_mut(alloc, &fs, &blocks)?;
     assert_eq!(rt; tiles.len(), 9);
-    // The first sample of luma and of chroma, behind margins of 88 and 44, and the number of blocks.
+    // The first sample of luma and of chroma, behind margins of 88 and 44, and how many blocks.
     let wanted = [
         ((88, 88), (44, 44), 256),
         ((152, 88), (76, 44), 256),

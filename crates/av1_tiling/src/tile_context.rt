@@ -1,8 +1,9 @@
 use crate::frame_state::FrameState;
+use crate::putting::put_table;
 use crate::tile_rects::{tile_blocks, tile_height, tile_superblock, tile_width};
 use crate::tile_state::TileStateMut;
 use crate::tiling_info::TilingInfo;
-use av1_block::{Block, Cut, FrameBlocks};
+use av1_block::{Block, Cut, FrameBlocks, FrameMEStats};
 use av1_plane::{Frame, OutOfMemory, Pixel};
 use std::alloc::Global;
 use std::marker::Model;
@@ -21,7 +22,12 @@ impl<T: Pixel> Model for TileContextMut<T> {
 
     ghost Value = { View };
 
-    ghost view = { λ c. record { ts = c.ts; blocks = view_cut c.blocks; frame_cols = c.frame_cols; frame_rows = c.frame_rows } };
+    ghost view = { λ c. record {
+      ts = c.ts;
+      blocks = view_cut c.blocks;
+      frame_cols = c.frame_cols;
+      frame_rows = c.frame_rows;
+    } };
 }
 
 impl<T: Pixel> TileContextMut<T> {
@@ -40,7 +46,8 @@ impl<T: Pixel> TileContextMut<T> {
 
     /// The tile's blocks, row by row, for writing.
     pub fn blocks_mut(&mut self) -> &mut [Block]
-        ensures* writes_back { sem 𝓛 (Lends (the_row T.row T.Pixel) (Array block_row 0) self.entry result (with_blocks self.old)) }
+        ensures* writes_back { sem 𝓛 (Lends (the_row T.row T.Pixel) (Array block_row 0) self.entry
+            result (with_blocks self.old)) }
         ensures value { result.now ≡ self.old.blocks.entries }
     {
         self.blocks.entries_mut()
@@ -50,7 +57,7 @@ impl<T: Pixel> TileContextMut<T> {
 impl<T: Pixel> TileContextMut<T> {
     ghost use Rattle.std.specs.Prelude.{◌≡◌, ◌<◌, ◌*◌, IfOk};
     ghost use Rattle.av1_block.specs.Tables.{table_entries};
-    ghost use Rattle.av1_tiling.specs.Frames.{view_of, view_state, IsTilingOf};
+    ghost use Rattle.av1_tiling.specs.Frames.{view_of, IsTilingOf};
 
     // The starting view of tile `n`.
     pub(crate) fn cut(
@@ -60,9 +67,9 @@ impl<T: Pixel> TileContextMut<T> {
         fb: &FrameBlocks,
         n: usize,
     ) -> Result<TileContextMut<T>, OutOfMemory>
-        requires made_for { IsTilingOf tiling.now (view_state T.number fs.now).rec fb.now.cols fb.now.rows }
+        requires made_for { IsTilingOf tiling.now fs.now fb.now.cols fb.now.rows }
         requires tile { n < tiling.now.cols * tiling.now.rows }
-        ensures { IfOk result (λ made. made ≡ view_of tiling.now (view_state T.number fs.now) (table_entries fb.now) n) }
+        ensures { IfOk result (λ made. made ≡ view_of tiling.now fs.now (table_entries fb.now) n) }
     {
         let sbo = tile_superblock(tiling, n);
         let width = tile_width(tiling, sbo);
@@ -79,20 +86,22 @@ impl<T: Pixel> TileContextMut<T> {
 }
 
 impl<T: Pixel> TileContextMut<T> {
-    ghost use Rattle.std.specs.Prelude.{◌≡◌, length};
-    ghost use Rattle.av1_block.specs.Tables.{table_entries};
-    ghost use Rattle.av1_tiling.specs.Views.{view_frame};
-    ghost use Rattle.av1_tiling.specs.Puts.{put, put_cuts, ViewLies};
+    ghost use Rattle.std.specs.Prelude.{◌≡◌};
+    ghost use Rattle.av1_tiling.specs.Puts.{put_view, tables_of};
+    ghost use Rattle.av1_tiling.specs.Coded.{ViewLies};
 
-    // Puts the tile's samples and blocks back into a frame and its table.
-    pub(crate) fn put_back(&self, rec: &mut Frame<T>, blocks: &mut FrameBlocks)
-        requires { ViewLies (view_frame T.number rec.old) (length (table_entries blocks.old)) self.now }
-        ensures rec { view_frame T.number rec.new ≡ put_cuts (view_frame T.number rec.old) self.now.ts.rec }
-        ensures blocks { table_entries blocks.new ≡ put (table_entries blocks.old) self.now.blocks }
-        ensures cols { blocks.new.cols ≡ blocks.old.cols }
-        ensures rows { blocks.new.rows ≡ blocks.old.rows }
+    // Puts the tile's samples, motion records and blocks back into a frame and its tables.
+    pub(crate) fn put_back(
+        &self,
+        rec: &mut Frame<T>,
+        me: &mut [FrameMEStats],
+        blocks: &mut FrameBlocks,
+    )
+        requires { ViewLies (tables_of T.number rec.old me.old blocks.old) self.now }
+        ensures { tables_of T.number rec.new me.new blocks.new
+            ≡ put_view (tables_of T.number rec.old me.old blocks.old) self.now }
     {
-        self.ts.put_back(rec);
-        self.blocks.put_back(blocks.entries_mut());
+        self.ts.put_back(rec, me);
+        put_table(blocks, &self.blocks);
     }
 }

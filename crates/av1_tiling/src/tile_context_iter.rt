@@ -40,7 +40,8 @@ impl<T: Pixel> Iterator for TileContextIterMut<T> {
     fn size_hint(&self) -> (usize, Option<usize>)
         ensures lower { IsWithinCount result.0 (item_count tiles_left self.now) }
         ensures upper { IfSome result.1 (UpTo (item_count tiles_left self.now)) }
-        ensures exact { result ≡ (length (tiles_left self.now), Some (length (tiles_left self.now))) }
+        ensures exact { result
+            ≡ (length (tiles_left self.now), Some (length (tiles_left self.now))) }
     {
         (self.left.len(), Some(self.left.len()))
     }

@@ -32,7 +32,8 @@ pub(crate) fn tile_width(tiling: &TilingInfo, sbo: PlaneSuperBlockOffset) -> usi
 pub(crate) fn tile_height(tiling: &TilingInfo, sbo: PlaneSuperBlockOffset) -> usize
     requires y { sbo.0.y < 2 ^ 20 }
     requires tile { tiling.now.tile_height_sb < 2 ^ 20 }
-    ensures { result ≡ min (tiling.now.tile_height_sb * 64) (tiling.now.frame_height - sbo.0.y * 64) }
+    ensures { result
+        ≡ min (tiling.now.tile_height_sb * 64) (tiling.now.frame_height - sbo.0.y * 64) }
 {
     let left = tiling.frame_height.saturating_sub(sbo.0.y * 64);
     left.min(tiling.tile_height_sb * 64)
@@ -46,8 +47,10 @@ pub(crate) fn tile_blocks(tiling: &TilingInfo, sbo: PlaneSuperBlockOffset) -> Ti
     requires height { tiling.now.tile_height_sb < 2 ^ 20 }
     ensures x { result.x ≡ sbo.0.x * 16 }
     ensures y { result.y ≡ sbo.0.y * 16 }
-    ensures width { result.width ≡ min (tiling.now.tile_width_sb * 16) (block_columns tiling.now - sbo.0.x * 16) }
-    ensures height { result.height ≡ min (tiling.now.tile_height_sb * 16) (block_rows tiling.now - sbo.0.y * 16) }
+    ensures width { result.width
+        ≡ min (tiling.now.tile_width_sb * 16) (block_columns tiling.now - sbo.0.x * 16) }
+    ensures height { result.height
+        ≡ min (tiling.now.tile_height_sb * 16) (block_rows tiling.now - sbo.0.y * 16) }
 {
     let x = sbo.0.x * 16;
     let y = sbo.0.y * 16;

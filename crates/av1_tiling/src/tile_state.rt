@@ -1,15 +1,17 @@
 use crate::deblock_state::DeblockState;
 use crate::frame_state::FrameState;
-use crate::part::{cut_frame, samples_rect};
-use crate::putting::put_frame;
-use av1_block::Cut;
+use crate::part::{cut_frame, cut_motion, motion_rect, samples_rect};
+use crate::putting::{put_frame, put_motion};
+use crate::segmentation_state::SegmentationState;
+use av1_block::{Cut, FrameMEStats, MEStats};
 use av1_plane::{Frame, OutOfMemory, Pixel, Plane, PlaneSuperBlockOffset, Three, TileRect};
 use std::alloc::Global;
 use std::marker::Model;
 use std::sync::Arc;
 
-/// What a tile is coded from, beside its blocks: its place and sides, the whole input, and the tile's
-/// part of the reconstruction, which it owns until it is put back.
+/// What a tile is coded from, beside its blocks: its place and sides, the whole input, and the
+/// tile's parts of the reconstruction and of the motion records, which it owns until they are put
+/// back.
 #[derive(Debug, Drop)]
 pub struct TileStateMut<T: Pixel> {
     /// The tile's first superblock.
@@ -28,12 +30,15 @@ pub struct TileStateMut<T: Pixel> {
     pub input_hres: Arc<Plane<T>>,
     pub input_qres: Arc<Plane<T>>,
     pub deblock: DeblockState,
+    pub segmentation: SegmentationState,
     rec: Three<Cut<T>>,
+    me_stats: Vec<Cut<MEStats>>,
 }
 
 impl<T: Pixel> Model for TileStateMut<T> {
+    ghost use Rattle.std.specs.Prelude.{map};
     ghost use Rattle.std.specs.Arc.{arc_value};
-    ghost use Rattle.av1_tiling.specs.Views.{TileState, view_plane, view_frame, view_cuts};
+    ghost use Rattle.av1_tiling.specs.Views.{TileState, view_plane, view_frame, view_cuts, view_cut};
 
     ghost Value = { TileState };
 
@@ -50,7 +55,9 @@ impl<T: Pixel> Model for TileStateMut<T> {
       input_hres = view_plane T.number (arc_value t.input_hres);
       input_qres = view_plane T.number (arc_value t.input_qres);
       deblock = t.deblock;
+      segmentation = t.segmentation;
       rec = view_cuts T.number t.rec;
+      me_stats = map view_cut t.me_stats.items;
     } };
 }
 
@@ -63,7 +70,8 @@ impl<T: Pixel> TileStateMut<T> {
     /// The tile's samples in plane `pli`, row by row, for writing.
     pub fn samples_mut(&mut self, pli: usize) -> &mut [T]
         requires { pli < 3 }
-        ensures* writes_back { sem 𝓛 (Lends (the_row T.row T.Pixel) (Array T.row 0) self.entry result (λ w. with_samples self.old pli (map T.number w))) }
+        ensures* writes_back { sem 𝓛 (Lends (the_row T.row T.Pixel) (Array T.row 0) self.entry
+            result (λ w. with_samples self.old pli (map T.number w))) }
         ensures value { map T.number result.now ≡ (plane_at self.old.rec pli).entries }
     {
         match pli {
@@ -75,8 +83,20 @@ impl<T: Pixel> TileStateMut<T> {
 }
 
 impl<T: Pixel> TileStateMut<T> {
-    ghost use Rattle.std.specs.Prelude.{◌≡◌, ◌<◌, ◌*◌, length};
+    ghost use Rattle.std.specs.Prelude.{◌≡◌, ◌<◌, ◌*◌, length, map};
     ghost use Rattle.av1_tiling.specs.Views.{plane_at};
+
+    /// The tile's samples in plane `pli`, row by row.
+    pub fn samples(&self, pli: usize) -> &[T]
+        requires { pli < 3 }
+        ensures { map T.number result.now ≡ (plane_at self.now.rec pli).entries }
+    {
+        match pli {
+            0 => self.rec.y.entries(),
+            1 => self.rec.u.entries(),
+            _ => self.rec.v.entries(),
+        }
+    }
 
     /// Where the tile's samples stand among the stored ones of plane `pli`.
     pub fn samples_rect(&self, pli: usize) -> TileRect
@@ -95,7 +115,8 @@ impl<T: Pixel> TileStateMut<T> {
 #[tactic(auto, using(crate::proofs::Fits::fits))]
 impl<T: Pixel> TileStateMut<T> {
     ghost use Rattle.std.specs.Prelude.{◌≡◌, IfOk};
-    ghost use Rattle.av1_tiling.specs.Frames.{tile_state, view_state, LiesInFrame};
+    ghost use Rattle.av1_tiling.specs.Grid.{IsBuiltSide};
+    ghost use Rattle.av1_tiling.specs.Frames.{tile_state, LiesInFrame};
 
     /// The state of the tile whose first superblock is `sbo` and whose sides in luma samples are
     /// these, in a frame in which it lies. Superblocks have 64 samples a side.
@@ -107,11 +128,13 @@ impl<T: Pixel> TileStateMut<T> {
         width: usize,
         height: usize,
     ) -> Result<TileStateMut<T>, OutOfMemory>
-        requires superblock { sb_size_log2 ≡ 6 }
-        requires tile { LiesInFrame (view_state T.number fs.now).rec (sbo.0.x, sbo.0.y) width height }
-        ensures { IfOk result (λ made. made ≡ tile_state (view_state T.number fs.now) (sbo.0.x, sbo.0.y) sb_size_log2 width height) }
+        requires superblock { IsBuiltSide sb_size_log2 }
+        requires tile { LiesInFrame fs.now (sbo.0.x, sbo.0.y) sb_size_log2 width height }
+        ensures { IfOk result (λ made.
+            made ≡ tile_state fs.now (sbo.0.x, sbo.0.y) sb_size_log2 width height) }
     {
         let rec = cut_frame(alloc, &fs.rec, samples_rect(sbo, width, height))?;
+        let me_stats = cut_motion(alloc, &fs.frame_me_stats, motion_rect(sbo, width, height))?;
         Ok(TileStateMut {
             sbo,
             sb_size_log2,
@@ -125,23 +148,32 @@ impl<T: Pixel> TileStateMut<T> {
             input_hres: Arc::try_clone(&fs.input_hres)?,
             input_qres: Arc::try_clone(&fs.input_qres)?,
             deblock: fs.deblock,
+            segmentation: fs.segmentation,
             rec,
+            me_stats,
         })
     }
 }
 
 impl<T: Pixel> TileStateMut<T> {
-    ghost use Rattle.std.specs.Prelude.{◌≡◌, length};
+    ghost use Rattle.std.specs.Prelude.{◌≡◌, length, map};
+    ghost use Rattle.std.specs.List.{AllZip};
     ghost use Rattle.av1_tiling.specs.Views.{view_frame};
-    ghost use Rattle.av1_tiling.specs.Puts.{put_cuts, PartLies};
+    ghost use Rattle.av1_tiling.specs.Puts.{put_cuts, put_motion, PartLies};
 
-    // Puts the tile's samples back into a frame.
-    pub(crate) fn put_back(&self, rec: &mut Frame<T>)
+    // Puts the tile's samples and motion records back into a frame and its tables.
+    pub(crate) fn put_back(&self, rec: &mut Frame<T>, me: &mut [FrameMEStats])
         requires y { PartLies (length (view_frame T.number rec.old).y.samples) self.now.rec.y }
         requires u { PartLies (length (view_frame T.number rec.old).u.samples) self.now.rec.u }
         requires v { PartLies (length (view_frame T.number rec.old).v.samples) self.now.rec.v }
-        ensures { view_frame T.number rec.new ≡ put_cuts (view_frame T.number rec.old) self.now.rec }
+        requires motion { AllZip (λ t part. PartLies (length t.entries) part)
+            (me.old) self.now.me_stats }
+        ensures rec { view_frame T.number rec.new
+            ≡ put_cuts (view_frame T.number rec.old) self.now.rec }
+        ensures motion { me.new
+            ≡ put_motion (me.old) self.now.me_stats }
     {
         put_frame(rec, &self.rec);
+        put_motion(me, &self.me_stats);
     }
 }

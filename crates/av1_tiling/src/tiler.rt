@@ -1,7 +1,7 @@
 //! From a frame to the views of its tiles, and back.
 ghost use Rattle.std.specs.Prelude.{◌≡◌, ◌<◌, ◌*◌, ◌^◌, IfOk, All, length};
 ghost use Rattle.av1_block.specs.Tables.{table_entries};
-ghost use Rattle.av1_tiling.specs.Frames.{view_state, views_below, IsTilingOf};
+ghost use Rattle.av1_tiling.specs.Frames.{views_below, IsTilingOf};
 
 use crate::frame_state::FrameState;
 use crate::tile_context::TileContextMut;
@@ -20,11 +20,12 @@ pub(crate) fn cut_tiles<T: Pixel>(
     fb: &FrameBlocks,
     count: usize,
 ) -> Result<Vec<TileContextMut<T>>, OutOfMemory>
-    requires made_for { IsTilingOf tiling.now (view_state T.number fs.now).rec fb.now.cols fb.now.rows }
+    requires made_for { IsTilingOf tiling.now fs.now fb.now.cols fb.now.rows }
     requires count { count ≡ tiling.now.cols * tiling.now.rows }
-    ensures { IfOk result (λ made. made.items ≡ views_below tiling.now (view_state T.number fs.now) (table_entries fb.now) count) }
+    ensures { IfOk result (λ made.
+        made.items ≡ views_below tiling.now fs.now (table_entries fb.now) count) }
 {
-    let mut contexts = Vec::new(alloc);
+    let mut contexts = Vec::with_capacity(alloc, count)?;
     for n in 0..count {
         contexts.push(TileContextMut::cut(alloc, tiling, fs, fb, n)?)?;
     }
@@ -35,16 +36,17 @@ impl TilingInfo {
     ghost use Rattle.av1_tiling.specs.Frames.{views};
     ghost use Rattle.av1_tiling.specs.Tiles.{tiles_left};
 
-    /// Cuts all tiles of a frame at once, row by row: each is the part of the state and of the blocks
-    /// that it is coded from.
+    /// Cuts all tiles of a frame at once, row by row: each is the part of the state and of the
+    /// blocks that it is coded from.
     pub fn tile_iter_mut<T: Pixel>(
         &self,
         alloc: Global,
         fs: &FrameState<T>,
         fb: &FrameBlocks,
     ) -> Result<TileContextIterMut<T>, OutOfMemory>
-        requires { IsTilingOf self.now (view_state T.number fs.now).rec fb.now.cols fb.now.rows }
-        ensures { IfOk result (λ tiles. tiles_left tiles ≡ views self.now (view_state T.number fs.now) (table_entries fb.now)) }
+        requires { IsTilingOf self.now fs.now fb.now.cols fb.now.rows }
+        ensures { IfOk result (λ tiles.
+            tiles_left tiles ≡ views self.now fs.now (table_entries fb.now)) }
     {
         let contexts = cut_tiles(alloc, self, fs, fb, self.tile_count())?;
         Ok(TileContextIterMut::new(contexts))

@@ -1,7 +1,7 @@
 use Rattle.std.proofs.Common.{◌≡◌}
 use Rattle.av1_block.specs.Tables.{table_entries}
-use Rattle.av1_tiling.specs.Frames.{view_state, views_below}
+use Rattle.av1_tiling.specs.Frames.{views_below}
 use Rattle.av1_tiling.proofs.tiler.cut_tiles.Given as goal
 
 abbrev pub invariant-loop-n : goal.invariant-loop-n
-invariant-loop-n g l = l.contexts.items ≡ views_below l.tiling (view_state g.T.Pixel.number l.fs) (table_entries l.fb) l.n
+invariant-loop-n g l = l.contexts.items ≡ views_below l.tiling l.fs (table_entries l.fb) l.n

@@ -1,0 +1,6 @@
+use Rattle.std.proofs.Common.{◌≡◌, map, replicate}
+use Rattle.av1_tiling.specs.Motion.{blank_motion}
+use Rattle.av1_tiling.proofs.frame_state.blank_motion.Given as goal
+
+abbrev pub invariant-loop-reference : goal.invariant-loop-reference
+invariant-loop-reference l = l.tables.items ≡ replicate l._reference (blank_motion l.cols l.rows)
