@@ -1,10 +1,9 @@
 ghost use Rattle.std.specs.Prelude.{◌≡◌, ◌==◌, ◌+◌, ◌*◌, ◌/◌, ◌<◌, ◌≤◌, ◌^◌, true, false};
 ghost use Rattle.av1_plane.specs.Region.{numbers_under, first_place, row_step, IsSamePart};
-ghost use Rattle.av1_block.specs.Tables.{view_entries, view_step};
 ghost use Rattle.av1_deblock.specs.Line.{IsDepth};
-ghost use Rattle.av1_deblock.specs.Levels.{edge_level, level_index, IsLevelled};
-ghost use Rattle.av1_deblock.specs.Edges.{edges, GridFits, HasBlocks};
-ghost use Rattle.av1_deblock.specs.Passes.{with_edges, is_halved, units, grid_of, plane_edges, has_luma_level, has_level, is_empty, deblocked_plane, HasGrid, GridBelow};
+ghost use Rattle.av1_deblock.specs.Levels.{by_state, level_index, IsLevelled};
+ghost use Rattle.av1_deblock.specs.Edges.{blocks_in};
+ghost use Rattle.av1_deblock.specs.Passes.{is_halved, units, grid_of, frame_plane, raster_under, filtered, block_edges, plane_cols, plane_rows, plane_edges, passed, has_level, is_empty, deblocked_plane};
 ghost use Rattle.av1_deblock.specs.Conditions.{IsDecimated, IsFrame, CoversPlane, CoversBlocks, HasDepth};
 
 use crate::grid::Grid;
@@ -27,7 +26,7 @@ fn has_half(pli: usize, dec: usize) -> bool
     pli != 0 && dec == 1
 }
 
-fn grid_in(pli: usize, cfg: &PlaneConfig, vertical: bool, crop_w: usize, crop_h: usize) -> Grid
+pub fn grid_in(pli: usize, cfg: &PlaneConfig, vertical: bool, crop_w: usize, crop_h: usize) -> Grid
     requires sides { IsFrame crop_w crop_h }
     ensures { result ≡ grid_of pli cfg.now vertical crop_w crop_h }
 {
@@ -66,7 +65,7 @@ fn is_filtered(deblock: &DeblockState, pli: usize) -> bool
     }
 }
 
-fn has_no_sample(cfg: &PlaneConfig) -> bool
+pub fn has_no_sample(cfg: &PlaneConfig) -> bool
     ensures { result ≡ is_empty cfg.now }
 {
     cfg.width == 0 || cfg.height == 0
@@ -84,8 +83,8 @@ fn filter_direction<T: Pixel>(
     bd: usize,
 )
     requires plane { pli ≤ 2 }
-    requires filled { is_empty p.old.plane_cfg.now ≡ false }
-    requires decimated { IsDecimated pli p.old.plane_cfg.now }
+    requires filled { is_empty p.old.plane_cfg ≡ false }
+    requires decimated { IsDecimated pli p.old.plane_cfg }
     requires levels { IsLevelled deblock.now }
     requires region { CoversPlane crop_w crop_h p.old }
     requires blocks { CoversBlocks crop_w crop_h blocks.now }
@@ -94,10 +93,13 @@ fn filter_direction<T: Pixel>(
     requires limit { 2 ^ bd ≤ T.limit }
     requires range { HasDepth bd crop_w crop_h T.number p.old }
     ensures part { IsSamePart p.old p.new }
-    ensures value { numbers_under T.number p.new ≡ with_edges bd (first_place p.old) (row_step p.old) (numbers_under T.number p.old) (plane_edges deblock.now pli p.old.plane_cfg.now vertical (view_entries blocks.now) (view_step blocks.now) crop_w crop_h) }
+    ensures value { numbers_under T.number p.new
+        ≡ filtered (raster_under bd T.number p.old)
+        (plane_edges (frame_plane pli p.old.plane_cfg crop_w crop_h) (by_state deblock.now)
+        (blocks_in blocks.now) vertical) }
     ensures range { HasDepth bd crop_w crop_h T.number p.new }
 {
-    let g = grid_in(pli, p.plane_cfg, vertical, crop_w, crop_h);
+    let g = grid_in(pli, &p.plane_cfg, vertical, crop_w, crop_h);
     let i = level_index_of(pli, vertical);
     filter_edges(p, g, deblock, i, blocks, bd);
 }
@@ -113,8 +115,8 @@ fn filter_plane<T: Pixel>(
     bd: usize,
 )
     requires plane { pli ≤ 2 }
-    requires filled { is_empty p.old.plane_cfg.now ≡ false }
-    requires decimated { IsDecimated pli p.old.plane_cfg.now }
+    requires filled { is_empty p.old.plane_cfg ≡ false }
+    requires decimated { IsDecimated pli p.old.plane_cfg }
     requires levels { IsLevelled deblock.now }
     requires region { CoversPlane crop_w crop_h p.old }
     requires blocks { CoversBlocks crop_w crop_h blocks.now }
@@ -123,7 +125,10 @@ fn filter_plane<T: Pixel>(
     requires limit { 2 ^ bd ≤ T.limit }
     requires range { HasDepth bd crop_w crop_h T.number p.old }
     ensures part { IsSamePart p.old p.new }
-    ensures value { numbers_under T.number p.new ≡ with_edges bd (first_place p.old) (row_step p.old) (with_edges bd (first_place p.old) (row_step p.old) (numbers_under T.number p.old) (plane_edges deblock.now pli p.old.plane_cfg.now true (view_entries blocks.now) (view_step blocks.now) crop_w crop_h)) (plane_edges deblock.now pli p.old.plane_cfg.now false (view_entries blocks.now) (view_step blocks.now) crop_w crop_h) }
+    ensures value { let plane = frame_plane pli p.old.plane_cfg crop_w crop_h in
+        numbers_under T.number p.new
+        ≡ passed (raster_under bd T.number p.old) (plane_cols plane) (plane_rows plane)
+        (block_edges plane (by_state deblock.now) (blocks_in blocks.now)) }
     ensures range { HasDepth bd crop_w crop_h T.number p.new }
 {
     filter_direction(deblock, p, pli, true, blocks, crop_w, crop_h, bd);
@@ -145,7 +150,7 @@ pub fn deblock_plane<T: Pixel>(
     crop_h: usize,
     bd: usize,
 )
-    requires decimated { IsDecimated pli p.old.plane_cfg.now }
+    requires decimated { IsDecimated pli p.old.plane_cfg }
     requires levels { IsLevelled deblock.now }
     requires region { CoversPlane crop_w crop_h p.old }
     requires blocks { CoversBlocks crop_w crop_h blocks.now }
@@ -154,10 +159,12 @@ pub fn deblock_plane<T: Pixel>(
     requires limit { 2 ^ bd ≤ T.limit }
     requires range { HasDepth bd crop_w crop_h T.number p.old }
     ensures part { IsSamePart p.old p.new }
-    ensures value { numbers_under T.number p.new ≡ deblocked_plane deblock.now pli p.old.plane_cfg.now (first_place p.old) (row_step p.old) (view_entries blocks.now) (view_step blocks.now) crop_w crop_h bd (numbers_under T.number p.old) }
+    ensures value { numbers_under T.number p.new
+        ≡ deblocked_plane deblock.now (frame_plane pli p.old.plane_cfg crop_w crop_h)
+        (blocks_in blocks.now) (raster_under bd T.number p.old) }
     ensures range { HasDepth bd crop_w crop_h T.number p.new }
 {
-    if is_filtered(deblock, pli) && !has_no_sample(p.plane_cfg) {
+    if is_filtered(deblock, pli) && !has_no_sample(&p.plane_cfg) {
         filter_plane(deblock, p, pli, blocks, crop_w, crop_h, bd);
     }
 }
