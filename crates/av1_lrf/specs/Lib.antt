@@ -1,0 +1,14 @@
+pub mod Sums
+pub mod Rows
+pub mod Runs
+pub mod Wiener
+pub mod Taps
+pub mod Guided
+pub mod Integral
+pub mod Restore
+pub mod Laws
+pub mod Guides
+pub mod Padded
+pub mod Units
+pub mod Frames
+pub mod Written
