@@ -1,103 +1,89 @@
 -- What is built begins with the parameters of one frame, and with an input made for it.
-use Rattle.std.proofs.Common.{◌≡◌, ◌*◌, ◌^◌, ℤ, List, true, Result, Ok, Some, inl, refl, sym, ap, subst, ◌∙◌, arith}
-use Rattle.av1_plane.specs.declared.three.Three.{Three}
+use Rattle.std.proofs.Common.{◌≡◌, ◌*◌, ◌^◌, Bool, true, false, not, eqb, ◌&&◌, inl, refl, sym, subst}
+use Rattle.std.proofs.lemmas.Bool.{and_parts, eqb-true}
+use Rattle.std.proofs.lemmas.Nat.{pow_pos}
 use Rattle.av1_plane.specs.declared.sampling.ChromaSampling.{ChromaSampling}
+use Rattle.av1_plane.specs.declared.sampling.ChromaSampling.TheVariants.{Cs420, Cs422, Cs444, Cs400}
 use Rattle.av1_tiling.specs.declared.tiling_info.TilingInfo.{TilingInfo}
-use Rattle.av1_tiling.specs.Frames as frames
-use Rattle.av1_tiling.specs.Frames.{Parameters, IsFrame, IsInRange, IsInputFor}
-use Rattle.av1_tiling.specs.Grid.{grid}
-use Rattle.av1_tiling.specs.TileRects.{tile_blocks}
+use Rattle.av1_tiling.specs.Frames.{Parameters, IsFrame, IsInputFor}
 use Rattle.av1_frame.specs.Built.{IsBuilt}
-use Rattle.av1_rec.specs.declared.header.Header.{Header}
+use Rattle.av1_rec.specs.declared.text.header.Header.{Header}
 use Rattle.av1_rec.specs.Begin.{frame_parameters}
-use Rattle.av1_rec.specs.Built.{is_built, one_tile}
-use Rattle.av1_rec.specs.Group.{HasTiling}
-use Rattle.av1_rec.specs.Header.{IsHeader}
-use Rattle.av1_rec.specs.Picture.{source_frame, IsPictureBelow}
-use Rattle.av1_rec.specs.Text.{tiling, is_422, tile_shape}
-use Rattle.av1_rec.proofs.OneTile.{small_is, built_small, built_switches, one_found, one_tiling, one_shape}
+use Rattle.av1_rec.specs.Built.{is_built, is_monochrome}
+use Rattle.av1_rec.specs.Picture.{source_frame}
+use Rattle.av1_rec.specs.Read.{IsRead}
+use Rattle.av1_rec.specs.Text.{Said}
 use Rattle.av1_rec.proofs.PictureRange.{source_in_range}
+use Rattle.av1_rec.proofs.TileFacts.{grid_found}
 
-same_ok : {A B : Type 0} (r : Result A B) (x y : A) → r ≡ Ok x → r ≡ Ok y → x ≡ y
-same_ok r x y e f = cc
+-- only one sampling has no chroma
+monochrome : (s : ChromaSampling) → is_monochrome s ≡ true → s ≡ Cs400
+monochrome Cs400 e = refl
+monochrome Cs420 e = cc
+monochrome Cs422 e = cc
+monochrome Cs444 e = cc
 
--- the tiling of what is built
-tiling_is : (h : Header) (t : TilingInfo) → IsHeader h → is_built h ≡ true → HasTiling h t → t ≡ one_tile h.format
-tiling_is h t right built e = same_ok (tiling h) t (one_tile h.format) e (one_tiling h built right.width.0 right.height.0)
+-- what isn't true is false
+not_set : (b : Bool) → not b ≡ true → b ≡ false
+not_set true e = cc
+not_set false e = refl
 
-frame_of : (h : Header) (t : TilingInfo) → IsHeader h → is_built h ≡ true → HasTiling h t → IsFrame 256 (frame_parameters h t)
-frame_of h t right built e =
-    let s = small_is h.format (built_small h built) in
-    let found : grid 6 h.format.width h.format.height h.target.num h.target.den h.target.cols_log2 h.target.rows_log2 (frames.is_422 h.format.sampling) ≡ Some t =
-    ap (λ (c : ChromaSampling). grid 6 h.format.width h.format.height h.target.num h.target.den h.target.cols_log2 h.target.rows_log2 (frames.is_422 c)) s.sampling
-    ∙ ap (λ (c : ChromaSampling). grid 6 h.format.width h.format.height h.target.num h.target.den h.target.cols_log2 h.target.rows_log2 (is_422 c)) (sym s.sampling)
-    ∙ one_found h built right.width.0 right.height.0
-    ∙ ap (λ (a : TilingInfo). Some a) (sym (tiling_is h t right built e)) in
+-- what is built of a header's frame is built of its parameters
+built_of : (h : Header) (t : TilingInfo) → is_built h t ≡ true → IsBuilt (frame_parameters h t)
+unfolding is_built
+built_of h t e =
+    let one = eqb (t.cols * t.rows) 1 in
+    let filters = not h.switches.enable_cdef && (not h.switches.enable_restoration && one) in
+    let a = and_parts (is_monochrome h.format.sampling) (eqb h.format.depth 8 && filters) e in
+    let b = and_parts (eqb h.format.depth 8) filters a.1 in
+    let d = and_parts (not h.switches.enable_cdef) (not h.switches.enable_restoration && one) b.1 in
+    let f = and_parts (not h.switches.enable_restoration) one d.1 in
     record {
-      width = right.width;
-      height = right.height;
-      depth = inl (s.depth, refl);
+      tiles = eqb-true (t.cols * t.rows) 1 f.1;
+      sampling = monochrome h.format.sampling a.0;
+      depth = eqb-true h.format.depth 8 b.0;
+      cdef = not_set h.switches.enable_cdef d.0;
+      restoration = not_set h.switches.enable_restoration f.0;
+    }
+
+-- its parameters are those of one frame
+frame_of : (s : Said) → IsRead s → is_built s.header s.tiling ≡ true → IsFrame 256 (frame_parameters s.header s.tiling)
+frame_of s read built =
+    let h = s.header in
+    record {
+      width = read.header.width;
+      height = read.header.height;
+      depth = inl ((built_of h s.tiling built).depth, refl);
       superblock = refl;
       columns = refl;
       rows = refl;
       superblock_columns = refl;
       superblock_rows = refl;
-      y_strengths = right.y_strengths;
-      uv_strengths = right.uv_strengths;
-      damping = right.damping;
-      tiling = (h.target.num, h.target.den, h.target.cols_log2, h.target.rows_log2, found);
+      y_strengths = read.header.y_strengths;
+      uv_strengths = read.header.uv_strengths;
+      damping = read.header.damping;
+      large_units = λ large on. let off = (built_of h s.tiling built).restoration in absurd cc;
+      tiling = (h.target.num, h.target.den, h.target.cols_log2, h.target.rows_log2, grid_found h s.tiling read.tiling);
     }
 
-built_of : (h : Header) (t : TilingInfo) → IsHeader h → is_built h ≡ true → HasTiling h t → IsBuilt (frame_parameters h t)
-built_of h t right built e =
-    let s = small_is h.format (built_small h built) in
-    let switches = built_switches h built in
-    record {
-      tiles = ap (λ (a : TilingInfo). a.cols * a.rows) (tiling_is h t right built e);
-      sampling = s.sampling;
-      depth = s.depth;
-      fast = switches.0;
-      cdef = switches.1;
-      restoration = switches.2;
-    }
-
-input_of : (h : Header) (t : TilingInfo) (s : Three (List (List ℤ))) → is_built h ≡ true → IsPictureBelow 256 s → IsInputFor (frame_parameters h t) (source_frame h.format s)
+-- its source is an input of the frame
+input_of : (s : Said) → IsRead s → IsInputFor (frame_parameters s.header s.tiling) (source_frame s.header.format s.source)
 unfolding source_frame
-input_of h t s built below =
-    let small = small_is h.format (built_small h built) in
-    let ranges = source_in_range 256 (omega arith) h.format s below in
-    let depth : 256 ≡ 2 ^ h.format.depth = rw small.depth refl in
-    record {
-      layout = refl;
-      y_range = subst (λ b. IsInRange b (source_frame h.format s).y) depth ranges.0;
-      u_range = subst (λ b. IsInRange b (source_frame h.format s).u) depth ranges.1;
-      v_range = subst (λ b. IsInRange b (source_frame h.format s).v) depth ranges.2;
-    }
-
-width_of : (h : Header) (t : TilingInfo) → IsHeader h → is_built h ≡ true → HasTiling h t → (tile_blocks t 0).width ≡ (frame_parameters h t).w_in_b
-unfolding tile_shape
-width_of h t right built e =
-    ap (λ (a : TilingInfo). (tile_blocks a 0).width) (tiling_is h t right built e) ∙ ap (λ s. s.blocks.width) (one_shape h.format (built_small h built) right.width.0 right.height.0)
-
-height_of : (h : Header) (t : TilingInfo) → IsHeader h → is_built h ≡ true → HasTiling h t → (tile_blocks t 0).height ≡ (frame_parameters h t).h_in_b
-unfolding tile_shape
-height_of h t right built e =
-    ap (λ (a : TilingInfo). (tile_blocks a 0).height) (tiling_is h t right built e) ∙ ap (λ s. s.blocks.height) (one_shape h.format (built_small h built) right.width.0 right.height.0)
+input_of s read =
+    let bound = 2 ^ s.header.format.depth in
+    let ranges = source_in_range bound (pow_pos s.header.format.depth) s.header.format s.source read.depth in
+    record { layout = refl; y_range = ranges.0; u_range = ranges.1; v_range = ranges.2 }
 
 -- of parameters that are these
-module _ (p : Parameters) (h : Header) (t : TilingInfo) (same : p ≡ frame_parameters h t) (built : is_built h ≡ true) where
-  pub frame_made : IsHeader h → HasTiling h t → IsFrame 256 p
-  frame_made right e = subst (IsFrame 256) (sym same) (frame_of h t right built e)
+module _ (p : Parameters) (s : Said) (same : p ≡ frame_parameters s.header s.tiling) (read : IsRead s) where
+  -- they are those of one frame
+  pub frame_made : is_built s.header s.tiling ≡ true → IsFrame 256 p
+  frame_made built = subst (IsFrame 256) (sym same) (frame_of s read built)
 
-  pub frame_built : IsHeader h → HasTiling h t → IsBuilt p
-  frame_built right e = subst IsBuilt (sym same) (built_of h t right built e)
+  -- they are built
+  pub frame_built : is_built s.header s.tiling ≡ true → IsBuilt p
+  frame_built built = subst IsBuilt (sym same) (built_of s.header s.tiling built)
 
-  pub source_made : (s : Three (List (List ℤ))) → IsPictureBelow 256 s → IsInputFor p (source_frame h.format s)
-  source_made s below = subst (λ q. IsInputFor q (source_frame h.format s)) (sym same) (input_of h t s built below)
-
-  -- the one tile has all blocks
-  pub all_columns : IsHeader h → HasTiling h t → (tile_blocks p.sequence.tiling 0).width ≡ p.w_in_b
-  all_columns right e = subst (λ (q : Parameters). (tile_blocks q.sequence.tiling 0).width ≡ q.w_in_b) (sym same) (width_of h t right built e)
-
-  pub all_rows : IsHeader h → HasTiling h t → (tile_blocks p.sequence.tiling 0).height ≡ p.h_in_b
-  all_rows right e = subst (λ (q : Parameters). (tile_blocks q.sequence.tiling 0).height ≡ q.h_in_b) (sym same) (height_of h t right built e)
+  -- the source is an input of theirs
+  pub source_made : IsInputFor p (source_frame s.header.format s.source)
+  source_made = subst (λ q. IsInputFor q (source_frame s.header.format s.source)) (sym same) (input_of s read)

@@ -7,7 +7,7 @@ use Rattle.std.proofs.lemmas.Bool.Decides.{nat_tests}
 use Rattle.av1_block.specs.Block.{default_block}
 use Rattle.av1_block.specs.Tables.{entry_at}
 use Rattle.av1_block.specs.declared.block.Block.{Block}
-use Rattle.av1_rec.specs.declared.block_line.BlockLine.{BlockLine}
+use Rattle.av1_rec.specs.declared.text.block_line.BlockLine.{BlockLine}
 use Rattle.av1_rec.specs.BlockTable.{holds, block_after, blocks_said}
 use Rattle.av1_rec.proofs.FirstValues.{by_places}
 

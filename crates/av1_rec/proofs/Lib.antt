@@ -4,7 +4,11 @@ pub mod Samples
 pub mod Many
 pub mod Strengths
 pub mod Lengths
-pub mod OneTile
+pub mod BuiltDepth
+pub mod TileFacts
+pub mod Shapes
+pub mod Numbered
+pub mod GridTexts
 pub mod Ends
 pub mod RegionRows
 pub mod FirstValues
@@ -16,3 +20,4 @@ pub mod PictureRange
 pub mod PictureRows
 pub mod Begins
 pub mod Reports
+pub mod WrittenShapes

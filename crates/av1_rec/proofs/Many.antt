@@ -1,9 +1,9 @@
 -- Lines of one kind, one after another.
 use Rattle.std.proofs.Common.{◌≡◌, ◌≤◌, ◌<◌, ℕ, suc, ◌+◌, ◌-◌, List, [], ◌∷◌, ◌++◌, Result, Ok, Err, refl, sym, ap, ◌∙◌, append_assoc, arith}
 use Rattle.std.proofs.lemmas.List.{append-nil}
-use Rattle.av1_rec.specs.declared.fault.Fault.{Fault}
-use Rattle.av1_rec.specs.declared.fault.TextError.{TextError}
-use Rattle.av1_rec.specs.declared.fault.TextError.TheVariants as errors
+use Rattle.av1_rec.specs.declared.text.fault.Fault.{Fault}
+use Rattle.av1_rec.specs.declared.text.fault.TextError.{TextError}
+use Rattle.av1_rec.specs.declared.text.fault.TextError.TheVariants as errors
 use Rattle.av1_rec.specs.Lines.{many, Fails, ◌>>=◌}
 
 -- what is read, behind what was read before

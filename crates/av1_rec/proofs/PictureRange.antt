@@ -7,9 +7,9 @@ use Rattle.av1_plane.specs.declared.three.Three.{Three}
 use Rattle.av1_plane.specs.Layout.{frame_layout, visible}
 use Rattle.av1_plane.specs.Numbers.{InDepth}
 use Rattle.av1_tiling.specs.Frames.{IsInRange}
-use Rattle.av1_rec.specs.declared.header.FrameFormat.{FrameFormat}
+use Rattle.av1_rec.specs.declared.text.header.FrameFormat.{FrameFormat}
 use Rattle.av1_rec.specs.BlockTable.{first_values}
-use Rattle.av1_rec.specs.Picture.{sample_of, nearest_sample, picture_plane, source_frame, AreBelow, IsPictureBelow}
+use Rattle.av1_rec.specs.Picture.{picture_sample, nearest_sample, picture_plane, source_frame, AreBelow, IsPictureBelow}
 use Rattle.av1_rec.proofs.FirstValues.{first_count, first_at}
 
 module _ (bound : ℕ) (some : 0 < bound) where
@@ -29,7 +29,7 @@ module _ (bound : ℕ) (some : 0 < bound) where
     | inr past ↦ subst (All (InDepth bound)) (sym (get_or_past rows y [] past)) (λ k d l. absurd (omega (arith, l)))
   ]
 
-  sample_below : (rows : List (List ℤ)) → AreBelow bound rows → (x y : ℕ) → InDepth bound (sample_of rows x y)
+  sample_below : (rows : List (List ℤ)) → AreBelow bound rows → (x y : ℕ) → InDepth bound (picture_sample rows x y)
   sample_below rows all x y = entry_below (get_or rows y []) (row_below rows all y) x
 
   values_below : (f : ℕ → ℤ) → ((k : ℕ) → InDepth bound (f k)) → (n : ℕ) → All (InDepth bound) (first_values f n)

@@ -1,6 +1,6 @@
 -- What a text that is read to its end says of the picture: its rows have the frame's sides, and their samples the
 -- frame's depth.
-use Rattle.std.proofs.Common.{◌≡◌, ◌==◌, ℕ, ℤ, zero, suc, pos, ◌<◌, ◌^◌, List, [], ◌∷◌, length, get_or, Bool, true, false, cond, All, Option, Some, None, Result, Ok, Err, refl, sym, ap, subst, arith}
+use Rattle.std.proofs.Common.{◌≡◌, ◌==◌, ℕ, ℤ, zero, suc, pos, ◌<◌, ◌^◌, List, [], ◌∷◌, length, get_or, Bool, true, false, cond, All, Option, Some, None, Result, Ok, Err, refl, sym, ap, subst, ◌∙◌, arith}
 use Rattle.std.specs.Prelude.{codes, nat_lt, IfOk}
 use Rattle.std.specs.List.{list_all}
 use Rattle.std.proofs.lemmas.Option.{option_and_then_some, same_Some}
@@ -10,16 +10,19 @@ use Rattle.av1_plane.specs.declared.three.Three.{Three}
 use Rattle.av1_plane.specs.Numbers.{InDepth}
 use Rattle.av1_plane.specs.Sampling.{decimation}
 use Rattle.av1_tiling.specs.declared.tiling_info.TilingInfo.{TilingInfo}
-use Rattle.av1_rec.specs.declared.extent.Extent.{Extent}
-use Rattle.av1_rec.specs.declared.fault.Fault.{Fault}
-use Rattle.av1_rec.specs.declared.fault.TextError.{TextError}
-use Rattle.av1_rec.specs.declared.header.FrameFormat.{FrameFormat}
-use Rattle.av1_rec.specs.declared.header.Header.{Header}
+use Rattle.av1_rec.specs.declared.text.extent.Extent.{Extent}
+use Rattle.av1_rec.specs.declared.text.fault.Fault.{Fault}
+use Rattle.av1_rec.specs.declared.text.fault.TextError.{TextError}
+use Rattle.av1_rec.specs.declared.text.header.FrameFormat.{FrameFormat}
+use Rattle.av1_rec.specs.declared.text.header.Header.{Header}
 use Rattle.av1_rec.specs.declared.text.Text.{Text}
-use Rattle.av1_rec.specs.Fields.{tag, below, sample, option_bind}
-use Rattle.av1_rec.specs.Lines.{◌>>=◌, line, line_or, row, many, rows, planes, said_planes, Gives}
-use Rattle.av1_rec.specs.Text.{Said, source, tiles, end, body, said, picture, chroma_picture, is_wide}
-use Rattle.av1_rec.specs.Picture.{AreRowsOf, HasPicture, AreBelow, IsPictureBelow}
+use Rattle.av1_rec.specs.Built.{is_built}
+use Rattle.av1_rec.specs.Fields.{tag, below, hex_sample, option_bind}
+use Rattle.av1_rec.specs.Header.{IsHeader}
+use Rattle.av1_rec.specs.Lines.{◌>>=◌, text_line, line_or, row, many, text_rows, planes, Gives}
+use Rattle.av1_rec.specs.Text.{Said, tiling, source_rows, tiles, end, body, said, luma_picture, chroma_picture, is_wide}
+use Rattle.av1_rec.specs.Read.{IsRead}
+use Rattle.av1_rec.specs.Picture.{AreRowsOf, HasPictureRows, AreBelow, IsPictureBelow}
 
 -- what a step of reading gave, where all was read
 bind_ok : {A B P : Type 0} (r : Result A Fault) (f : A → Result B Fault) (y : B) → (r >>= f) ≡ Ok y → ((x : A) → r ≡ Ok x → f x ≡ Ok y → P) → P
@@ -48,7 +51,7 @@ if_some false v w e = absurd cc
 below_right : (wide : Bool) (limit : ℕ) (text : List ℕ) (v : ℕ × List ℕ) → below wide limit text ≡ Some v → v.0 < limit
 unfolding below
 below_right wide limit text v e =
-    option_and_then_some (λ (w : ℕ × List ℕ). cond (nat_lt w.0 limit) (Some w) None) (sample wide text) v e (λ w read test.
+    option_and_then_some (λ (w : ℕ × List ℕ). cond (nat_lt w.0 limit) (Some w) None) (hex_sample wide text) v e (λ w read test.
     let p = if_some (nat_lt w.0 limit) w v test in
     subst (λ (u : ℕ × List ℕ). u.0 < limit) p.1 (ltb-true w.0 limit p.0))
 
@@ -91,9 +94,9 @@ record AreRows (limit : ℕ) (extent : Extent) (rs : List (List ℤ)) : Type 0 w
   sides : AreRowsOf extent rs
   below : AreBelow limit rs
 
-rows_right : (wide : Bool) (limit : ℕ) (sides : Extent) (text : List ℕ) (x : List (List ℤ) × List ℕ) → rows wide limit sides.width sides.height text ≡ Ok x → AreRows limit sides x.0
+rows_right : (wide : Bool) (limit : ℕ) (sides : Extent) (text : List ℕ) (x : List (List ℤ) × List ℕ) → text_rows wide limit sides.width sides.height text ≡ Ok x → AreRows limit sides x.0
 rows_right wide limit sides text x e =
-    let right = many_right (IsRow limit sides.width) (line (row wide limit sides.width)) (λ t v read. row_right wide limit sides.width t v (line_some (length t) (row wide limit sides.width t) v read)) sides.height text x e in
+    let right = many_right (IsRow limit sides.width) (text_line (row wide limit sides.width)) (λ t v read. row_right wide limit sides.width t v (line_some (length t) (row wide limit sides.width t) v read)) sides.height text x e in
     let long : list_all (λ row. length row == sides.width) x.0 ≡ true = list_all-from_AllPass (λ row. length row == sides.width) x.0 (λ k d l. eq-eqb (length (get_or x.0 k d)) sides.width (right.1 k d l).long) in
     record { sides = rw (right.0, eq-eqb sides.height sides.height refl) long; below = λ k d l. (right.1 k d l).below }
 
@@ -105,9 +108,9 @@ record ArePlanes (limit : ℕ) (luma chroma : Extent) (s : Three (List (List ℤ
 planes_right : (wide : Bool) (limit : ℕ) (luma chroma : Extent) (text : List ℕ) (x : Three (List (List ℤ)) × List ℕ) → planes wide limit luma chroma text ≡ Ok x → ArePlanes limit luma chroma x.0
 unfolding planes
 planes_right wide limit luma chroma text x e =
-    bind_ok (rows wide limit luma.width luma.height text) _ x e (λ y read_y after_y.
-    bind_ok (rows wide limit chroma.width chroma.height y.1) _ x after_y (λ u read_u after_u.
-    bind_ok (rows wide limit chroma.width chroma.height u.1) _ x after_u (λ v read_v made.
+    bind_ok (text_rows wide limit luma.width luma.height text) _ x e (λ y read_y after_y.
+    bind_ok (text_rows wide limit chroma.width chroma.height y.1) _ x after_y (λ u read_u after_u.
+    bind_ok (text_rows wide limit chroma.width chroma.height u.1) _ x after_u (λ v read_v made.
     subst (λ (z : Three (List (List ℤ)) × List ℕ). ArePlanes limit luma chroma z.0) (same_ok (record { y = y.0; u = u.0; v = v.0 }, v.1) x made) (record {
       y = rows_right wide limit luma text y read_y;
       u = rows_right wide limit chroma y.1 u read_u;
@@ -115,33 +118,49 @@ planes_right wide limit luma chroma text x e =
     }))))
 
 -- the source that was read
-source_right : (f : FrameFormat) (text : List ℕ) (x : Three (List (List ℤ)) × List ℕ) → source f text ≡ Ok x → HasPicture f x.0 × IsPictureBelow (2 ^ f.depth) x.0
-unfolding source
+source_right : (f : FrameFormat) (text : List ℕ) (x : Three (List (List ℤ)) × List ℕ) → source_rows f text ≡ Ok x → HasPictureRows f x.0 × IsPictureBelow (2 ^ f.depth) x.0
+unfolding source_rows
 source_right f text x e =
-    bind_ok (line (tag (codes "source\n")) text) (λ (rest : List ℕ). planes (is_wide f) (2 ^ f.depth) (picture f) (chroma_picture f (decimation f.sampling)) rest) x e (λ rest word read.
-    let p = planes_right (is_wide f) (2 ^ f.depth) (picture f) (chroma_picture f (decimation f.sampling)) rest x read in
+    bind_ok (text_line (tag (codes "source\n")) text) (λ (rest : List ℕ). planes (is_wide f) (2 ^ f.depth) (luma_picture f) (chroma_picture f (decimation f.sampling)) rest) x e (λ rest word read.
+    let p = planes_right (is_wide f) (2 ^ f.depth) (luma_picture f) (chroma_picture f (decimation f.sampling)) rest x read in
     (record { y = p.y.sides; u = p.u.sides; v = p.v.sides }, record { y = p.y.below; u = p.u.below; v = p.v.below }))
 
 -- what follows a header, read to its end
-body_right : (h : Header) (t : TilingInfo) (text : List ℕ) (s : Said) → body h t text ≡ Ok s → (s.header ≡ h) × HasPicture s.header.format s.source × IsPictureBelow (2 ^ s.header.format.depth) s.source
+body_right : (h : Header) (t : TilingInfo) (text : List ℕ) (s : Said) → body h t text ≡ Ok s
+    → (s.header ≡ h) × (s.tiling ≡ t) × HasPictureRows h.format s.source × IsPictureBelow (2 ^ h.format.depth) s.source
 unfolding body
 body_right h t text s e =
-    bind_ok (source h.format text) _ s e (λ picture read e1.
+    bind_ok (source_rows h.format text) _ s e (λ picture read e1.
     bind_ok (tiles h t picture.1) _ s e1 (λ results read_tiles e2.
     bind_ok (end results.1) _ s e2 (λ (last : Unit {0}) read_end made.
     let p = source_right h.format text picture read in
-    subst (λ (y : Said). (y.header ≡ h) × HasPicture y.header.format y.source × IsPictureBelow (2 ^ y.header.format.depth) y.source)
-    (same_ok (record { header = h; source = picture.0; tiles = results.0 }) s made) (refl, p.0, p.1))))
+    subst (λ (y : Said). (y.header ≡ h) × (y.tiling ≡ t) × HasPictureRows h.format y.source × IsPictureBelow (2 ^ h.format.depth) y.source)
+    (same_ok (record { header = h; tiling = t; source = picture.0; tiles = results.0 }) s made) (refl, refl, p.0, p.1))))
 
--- what the header has, the text has
-pub body_keeps : (Q : Header → Type 0) (h : Header) (t : TilingInfo) (text : List ℕ) (r : Result (Text ℕ) TextError) → Gives (said (λ (x : ℕ). pos x)) r (body h t text) → Q h → IfOk r (λ x. Q x.header)
-body_keeps Q h t text (Ok x) gives q = subst Q (sym (body_right h t text (said (λ (n : ℕ). pos n) x) gives).0) q
-body_keeps Q h t text (Err e) gives q = tt
+-- what is known of a text behind a right header
+read_right : (h : Header) (t : TilingInfo) (text : List ℕ) (s : Said) → IsHeader h → tiling h ≡ Ok t → body h t text ≡ Ok s → IsRead s
+read_right h t text s right tiled e =
+    let p = body_right h t text s e in
+    let same : s.header ≡ h = p.0 in
+    record {
+      header = subst IsHeader (sym same) right;
+      tiling = ap tiling same ∙ tiled ∙ ap (λ (x : TilingInfo). Ok x) (sym p.1);
+      sides = subst (λ (x : Header). HasPictureRows x.format s.source) (sym same) p.2;
+      depth = subst (λ (x : Header). IsPictureBelow (2 ^ x.format.depth) s.source) (sym same) p.3;
+    }
 
-pub body_sides : (h : Header) (t : TilingInfo) (text : List ℕ) (r : Result (Text ℕ) TextError) → Gives (said (λ (x : ℕ). pos x)) r (body h t text) → IfOk r (λ x. HasPicture x.header.format (said_planes (λ (n : ℕ). pos n) x.source))
-body_sides h t text (Ok x) gives = (body_right h t text (said (λ (n : ℕ). pos n) x) gives).1
-body_sides h t text (Err e) gives = tt
+-- what the program keeps of a text is so
+pub body_read : {X : Type 0} (number : X → ℤ) (h : Header) (t : TilingInfo) (text : List ℕ) (r : Result (Text X) TextError)
+    → IsHeader h → tiling h ≡ Ok t → Gives (said number) r (body h t text) → IfOk r (λ x. IsRead (said number x))
+body_read number h t text (Ok x) right tiled gives = read_right h t text (said number x) right tiled gives
+body_read number h t text (Err e) right tiled gives = tt
 
-pub body_depth : (h : Header) (t : TilingInfo) (text : List ℕ) (r : Result (Text ℕ) TextError) → Gives (said (λ (x : ℕ). pos x)) r (body h t text) → IfOk r (λ x. IsPictureBelow (2 ^ x.header.format.depth) (said_planes (λ (n : ℕ). pos n) x.source))
-body_depth h t text (Ok x) gives = (body_right h t text (said (λ (n : ℕ). pos n) x) gives).2
-body_depth h t text (Err e) gives = tt
+-- it has the header and the tiling
+pub body_built : {X : Type 0} (number : X → ℤ) (h : Header) (t : TilingInfo) (text : List ℕ) (r : Result (Text X) TextError)
+    → is_built h t ≡ true → Gives (said number) r (body h t text) → IfOk r (λ x. is_built x.header x.tiling ≡ true)
+body_built number h t text (Ok x) built gives =
+    let p = body_right h t text (said number x) gives in
+    let header : x.header ≡ h = p.0 in
+    let tiling : x.tiling ≡ t = p.1 in
+    rw (header, tiling) built
+body_built number h t text (Err e) built gives = tt

@@ -13,16 +13,13 @@ use Rattle.av1_plane.specs.Planes.{IsBlank}
 use Rattle.av1_block.specs.Cut.{overwritten}
 use Rattle.av1_block.proofs.Runs.{overwritten_before, overwritten_within, map-overwritten}
 use Rattle.av1_tiling.specs.Views.{view_plane, view_frame}
-use Rattle.av1_rec.specs.declared.header.FrameFormat.{FrameFormat}
+use Rattle.av1_rec.specs.declared.text.header.FrameFormat.{FrameFormat}
 use Rattle.av1_rec.specs.Lines.{said_planes}
 use Rattle.av1_rec.specs.Recorded.{have_sides}
-use Rattle.av1_rec.specs.Picture.{sample_of, nearest_sample, picture_plane, source_frame}
+use Rattle.av1_rec.specs.Lines.{numbers_of}
+use Rattle.av1_rec.specs.Picture.{picture_sample, nearest_sample, picture_plane, source_frame}
 use Rattle.av1_rec.proofs.RecordedRows.{row_long}
 use Rattle.av1_rec.proofs.FirstValues.{by_places}
-
--- the numbers in rows
-abbrev pub numbers_of : {T : Type 0} → (T → ℤ) → List (Vec T Global) → List (List ℤ)
-numbers_of number rows = map (λ row. map number row.items) rows
 
 pub row_of : {T : Type 0} (number : T → ℤ) (rows : List (Vec T Global)) (y : ℕ) (row : Vec T Global) → y < length rows → row ≡ get_or rows y row → get_or (numbers_of number rows) y [] ≡ map number row.items
 row_of number rows y row below read =
@@ -44,8 +41,8 @@ numbers_written number old new run i e = ap (map number) e ∙ map-overwritten n
 -- one row more is written
 pub row_more : (s left top i : ℕ) (rs : List (List ℤ)) (xs ys run : List ℤ) → get_or rs i [] ≡ run → i < length rs
     → ((k : ℕ) → k < length rs → left + length (get_or rs k []) ≤ s) → (top + length rs) * s ≤ length xs → ys ≡ overwritten xs (top * s + i * s + left) run
-    → ((x y : ℕ) → y < i → x < length (get_or rs y []) → at xs s (left + x) (top + y) ≡ sample_of rs x y)
-    → (x y : ℕ) → y < i + 1 → x < length (get_or rs y []) → at ys s (left + x) (top + y) ≡ sample_of rs x y
+    → ((x y : ℕ) → y < i → x < length (get_or rs y []) → at xs s (left + x) (top + y) ≡ picture_sample rs x y)
+    → (x y : ℕ) → y < i + 1 → x < length (get_or rs y []) → at ys s (left + x) (top + y) ≡ picture_sample rs x y
 row_more s left top i rs xs ys run read below fits stored written before x y hy hx =
     let start = top * s + i * s + left in
     let place = (top + y) * s + (left + x) in
@@ -86,8 +83,8 @@ all_fit number left s w h rows fits e k d below =
 
 -- the rows of a picture are in the plane, all of each
 pub in_place : {T : Type 0} (number : T → ℤ) (rows : List (Vec T Global)) (cfg : PlaneConfig) (vw vh : ℕ) (before : List ℤ) → have_sides (vw, vh) (numbers_of number rows) ≡ true
-    → ((x y : ℕ) → y < length rows → x < length (get_or (numbers_of number rows) y []) → at before cfg.stride (cfg.xorigin + x) (cfg.yorigin + y) ≡ sample_of (numbers_of number rows) x y)
-    → (x y : ℕ) → x < vw → y < vh → at before cfg.stride (cfg.xorigin + x) (cfg.yorigin + y) ≡ sample_of (numbers_of number rows) x y
+    → ((x y : ℕ) → y < length rows → x < length (get_or (numbers_of number rows) y []) → at before cfg.stride (cfg.xorigin + x) (cfg.yorigin + y) ≡ picture_sample (numbers_of number rows) x y)
+    → (x y : ℕ) → x < vw → y < vh → at before cfg.stride (cfg.xorigin + x) (cfg.yorigin + y) ≡ picture_sample (numbers_of number rows) x y
 in_place number rows cfg vw vh before e f x y hx hy =
     let sides = have vw vh (numbers_of number rows) e in
     let count : length (numbers_of number rows) ≡ length rows = length-map rows (λ (v : Vec _ Global). map number v.items) in
@@ -107,13 +104,13 @@ run_fits s left top i n len total below fits stored = omega (arith, fits, stored
 -- a picture that is in place is spread
 pub spread : (cfg : PlaneConfig) (w h : ℕ) (rs : List (List ℤ)) (before after : List ℤ) → length before ≡ cfg.stride * cfg.alloc_height → CanPad cfg w h
     → IsPadded cfg (visible w cfg.xdec) (visible h cfg.ydec) before after
-    → ((x y : ℕ) → x < visible w cfg.xdec → y < visible h cfg.ydec → at before cfg.stride (cfg.xorigin + x) (cfg.yorigin + y) ≡ sample_of rs x y)
+    → ((x y : ℕ) → x < visible w cfg.xdec → y < visible h cfg.ydec → at before cfg.stride (cfg.xorigin + x) (cfg.yorigin + y) ≡ picture_sample rs x y)
     → after ≡ (picture_plane cfg w h rs).samples
 spread cfg w h rs before after count can padded written =
     by_places (pos 0) (nearest_sample cfg (visible w cfg.xdec) (visible h cfg.ydec) rs) cfg.stride cfg.alloc_height after (padded.length ∙ count)
     (λ x y hx hy. padded.samples x y hx hy ∙ from_picture (visible w cfg.xdec) (visible h cfg.ydec) x y can.some_width can.some_height written)
   where
-    from_picture : (vw vh x y : ℕ) → 1 ≤ vw → 1 ≤ vh → ((x y : ℕ) → x < vw → y < vh → at before cfg.stride (cfg.xorigin + x) (cfg.yorigin + y) ≡ sample_of rs x y)
+    from_picture : (vw vh x y : ℕ) → 1 ≤ vw → 1 ≤ vh → ((x y : ℕ) → x < vw → y < vh → at before cfg.stride (cfg.xorigin + x) (cfg.yorigin + y) ≡ picture_sample rs x y)
         → at before cfg.stride (nearest cfg.xorigin vw x) (nearest cfg.yorigin vh y) ≡ nearest_sample cfg vw vh rs x y
     from_picture vw vh x y some_width some_height f =
         let u = nearest cfg.xorigin vw x - cfg.xorigin in

@@ -2,7 +2,7 @@
 use Rattle.std.proofs.Common.{◌≡◌, ◌≤◌, ◌<◌, ℕ, suc, ◌+◌, ◌-◌, ℤ, pos, List, [], ◌∷◌, ◌++◌, Bool, Option, Some, None, Ok, Err, refl, sym, ap, ◌∙◌, append_assoc, arith}
 use Rattle.std.specs.Prelude.{codes}
 use Rattle.std.proofs.lemmas.List.{append-nil}
-use Rattle.av1_rec.specs.declared.fault.Fault.TheVariants.{Wrong}
+use Rattle.av1_rec.specs.declared.text.fault.Fault.TheVariants.{Wrong}
 use Rattle.av1_rec.specs.Fields.{tag, below, option_bind}
 use Rattle.av1_rec.specs.Lines.{row, line_or}
 

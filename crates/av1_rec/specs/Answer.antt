@@ -1,33 +1,49 @@
 -- What a run answers and prints, by its words and its text.
-use Rattle.std.specs.Prelude.{◌≡◌, ◌⊎◌, Option, Some, IfSome, option_map, ℕ, ◌^◌, List, [], length, nat_lt, true, false, if◌then◌else◌, Ok, Err}
-use Rattle.av1_rec.specs.declared.fault.Fault.TheVariants as faults
-use Rattle.av1_rec.specs.declared.status.Status.{Status}
-use Rattle.av1_rec.specs.declared.status.Status.TheVariants as status
-use Rattle.av1_rec.specs.Commands.{is_command, is_group_one}
+use Rattle.std.specs.Prelude.{◌≡◌, ◌⊎◌, Option, Some, None, IfSome, option_map, is_some, ℕ, ◌^◌, List, [], length, nat_lt, true, false, if◌then◌else◌, Ok, Err}
+use Rattle.std.specs.Io.KnownBytes.{Appends}
+use Rattle.av1_rec.specs.declared.program.commands.Command.{Command}
+use Rattle.av1_rec.specs.declared.program.commands.Command.TheVariants.{Group, Tiles, Gen}
+use Rattle.av1_rec.specs.declared.program.status.Status.{Status}
+use Rattle.av1_rec.specs.declared.program.status.Status.TheVariants as status
+use Rattle.av1_rec.specs.declared.text.fault.Fault.{Fault}
+use Rattle.av1_rec.specs.declared.text.fault.Fault.TheVariants as faults
+use Rattle.av1_rec.specs.Commands.{reads, asks_for_text}
+use Rattle.av1_rec.specs.GridText.{grid_text}
 use Rattle.av1_rec.specs.Group.{Answer, refused, group_answer}
 use Rattle.av1_rec.specs.Statuses.{refusal_line}
-use Rattle.av1_rec.specs.Text.{text_of, line_number}
-use Rattle.av1_rec.specs.Told.{Appended, Prefixed}
+use Rattle.av1_rec.specs.Text.{tiled_header, text_of, line_number}
+use Rattle.av1_rec.specs.Told.{Prefixed}
 
--- of a text that isn't too long
+-- where a text is wrong, has no tiling, or asks for what isn't built
+abbrev pub fault_answer : List ℕ → Fault → Answer
+fault_answer text (faults.Wrong left) = refused (status.Syntax (line_number text left))
+fault_answer text faults.NoTiling = refused status.NoTiling
+fault_answer text faults.NotBuilt = refused status.NotBuilt
+
+-- of a text that isn't too long, for the report of its frame
 unfoldable pub text_answer : List ℕ → Answer
-text_answer text = elim (text_of text) [
-  | Ok said ↦ group_answer said
-  | Err faults.NoTiling ↦ refused status.NoTiling
-  | Err faults.NotBuilt ↦ refused status.NotBuilt
-  | Err (faults.Wrong left) ↦ refused (status.Syntax (line_number text left))
-]
+text_answer text = elim (text_of text) [ Ok said ↦ group_answer said | Err fault ↦ fault_answer text fault ]
+
+-- for its tile grid: only the header is looked at
+unfoldable pub grid_answer : List ℕ → Answer
+grid_answer text = elim (tiled_header text) [ Ok h ↦ (status.Done, grid_text h.1) | Err fault ↦ fault_answer text fault ]
+
+-- for what a command asks for
+abbrev pub answer_of : Command → List ℕ → Answer
+answer_of (Group workers) text = text_answer text
+answer_of Tiles text = grid_answer text
+answer_of (Gen seed workers) text = refused status.NotBuilt
 
 -- of all that a source gave
-unfoldable pub input_answer : List ℕ → Answer
-input_answer text = if nat_lt (2 ^ 28) (length text) then refused status.TooLong else text_answer text
+unfoldable pub input_answer : Command → List ℕ → Answer
+input_answer command text = if nat_lt (2 ^ 28) (length text) then refused status.TooLong else answer_of command text
 
--- what these words ask for of a source with these bytes left; nothing is known where the source doesn't tell them
--- and the words ask for them
-unfoldable pub asked : List (List ℕ) → Option (List ℕ) → Option Answer
-asked words left =
-    if is_command words then (if is_group_one words then option_map input_answer left else Some (refused status.NotBuilt))
-    else Some (refused status.Usage)
+-- what is asked for of a source with these bytes left; nothing is known where the source doesn't tell them and a text
+-- is asked for
+unfoldable pub asked : Option Command → Option (List ℕ) → Option Answer
+asked None left = Some (refused status.Usage)
+asked (Some command) left =
+    if reads command then option_map (input_answer command) left else Some (refused status.NotBuilt)
 
 -- how a text alone may end a run
 abbrev pub IsOfText : Status → Type 0
@@ -35,7 +51,6 @@ IsOfText status.Done = Unit {0}
 IsOfText (status.Syntax line) = Unit {0}
 IsOfText status.NoTiling = Unit {0}
 IsOfText (status.Group error) = Unit {0}
-IsOfText status.TooLong = Unit {0}
 IsOfText status.NotBuilt = Unit {0}
 IsOfText s = ⊥
 
@@ -43,30 +58,52 @@ IsOfText s = ⊥
 abbrev pub read_refusal : List ℕ
 read_refusal = refusal_line status.ReadFault
 
--- what was made of the words and what a source gave: a status and what is to be printed; `rose` says whether the
+-- no fault was told, and memory was there
+abbrev pub IsFaultless : Status → Type 0
+IsFaultless status.OutOfMemory = ⊥
+IsFaultless status.ReadFault = ⊥
+IsFaultless status.WriteFault = ⊥
+IsFaultless s = Unit {0}
+
+-- a status and what is printed are those that are known
+abbrev pub IsKnown : Option Answer → Status → List ℕ → Type 0
+IsKnown known s printed = IfSome known (λ a. a ≡ (s, printed))
+
+-- what was made of a command and what a source gave: a status and what is to be printed; `rose` says whether the
 -- source's count of faults rose
-abbrev pub Made : List (List ℕ) → Option Answer → Type 0 → Status → List ℕ → Type 0
-Made words known rose status.OutOfMemory printed = printed ≡ []
-Made words known rose status.ReadFault printed = (is_group_one words ≡ true) × rose × (printed ≡ read_refusal)
-Made words known rose status.WriteFault printed = ⊥
-Made words known rose status.Usage printed = (is_command words ≡ false) × IfSome known (λ a. a ≡ (status.Usage, printed))
-Made words known rose s printed = (is_command words ≡ true) × IfSome known (λ a. a ≡ (s, printed))
+abbrev pub Made : Option Command → Option Answer → Type 0 → Status → List ℕ → Type 0
+Made command known rose status.OutOfMemory printed = printed ≡ []
+Made command known rose status.ReadFault printed =
+    (asks_for_text command ≡ true) × rose × (printed ≡ read_refusal)
+Made command known rose status.WriteFault printed = ⊥
+Made command known rose status.Usage printed = (is_some command ≡ false) × IsKnown known status.Usage printed
+Made command known rose s printed = (is_some command ≡ true) × IsKnown known s printed
 
 -- how writing ends a run
 abbrev pub Finished : Status → List ℕ → Type 0 → Option (List ℕ) → Option (List ℕ) → Status → Type 0
-Finished before printed rose old new after = ((after ≡ before) × Appended old new printed)
-    ⊎ (((after ≡ status.WriteFault) × rose × Prefixed old new printed) ⊎ ((after ≡ status.OutOfMemory) × Prefixed old new printed))
+Finished before printed rose old new after =
+    ((after ≡ before) × Appends old new printed)
+    ⊎ (((after ≡ status.WriteFault) × rose × Prefixed old new printed)
+    ⊎ ((after ≡ status.OutOfMemory) × Prefixed old new printed))
 
 -- a part of what is known to be printed was, or, the source having failed, of that refusal's line
-abbrev pub PartWritten : List (List ℕ) → Option Answer → Type 0 → Option (List ℕ) → Option (List ℕ) → Type 0
-PartWritten words known read_rose old new =
-    IfSome known (λ a. Prefixed old new a.1) ⊎ ((is_group_one words ≡ true) × read_rose × Prefixed old new read_refusal)
+abbrev pub PartWritten : Option Command → Option Answer → Type 0 → Option (List ℕ) → Option (List ℕ) → Type 0
+PartWritten command known read_rose old new =
+    IfSome known (λ a. Prefixed old new a.1)
+    ⊎ ((asks_for_text command ≡ true) × read_rose × Prefixed old new read_refusal)
 
--- how a run ends, and what it has written: what the words and the source ask for, unless memory ran out or the
+-- what is known was answered and printed
+abbrev pub KnownWritten : Option Answer → Option (List ℕ) → Option (List ℕ) → Status → Type 0
+KnownWritten known old new s = IfSome known (λ a. (s ≡ a.0) × Appends old new a.1)
+
+-- how a run ends, and what it has written: what the command and the source ask for, unless memory ran out or the
 -- source's or the sink's count of faults rose; want of memory may come at any point, and leaves a part
-abbrev pub Answered : List (List ℕ) → Option Answer → Type 0 → Type 0 → Option (List ℕ) → Option (List ℕ) → Status → Type 0
-Answered words known read_rose write_rose old new status.OutOfMemory = PartWritten words known read_rose old new
-Answered words known read_rose write_rose old new status.ReadFault = (is_group_one words ≡ true) × read_rose × Appended old new read_refusal
-Answered words known read_rose write_rose old new status.WriteFault = write_rose × PartWritten words known read_rose old new
-Answered words known read_rose write_rose old new status.Usage = (is_command words ≡ false) × IfSome known (λ a. (status.Usage ≡ a.0) × Appended old new a.1)
-Answered words known read_rose write_rose old new s = (is_command words ≡ true) × IfSome known (λ a. (s ≡ a.0) × Appended old new a.1)
+abbrev pub Answered : Option Command → Option Answer → Type 0 → Type 0 → Option (List ℕ) → Option (List ℕ) → Status → Type 0
+Answered command known read_rose write_rose old new status.OutOfMemory = PartWritten command known read_rose old new
+Answered command known read_rose write_rose old new status.ReadFault =
+    (asks_for_text command ≡ true) × read_rose × Appends old new read_refusal
+Answered command known read_rose write_rose old new status.WriteFault =
+    write_rose × PartWritten command known read_rose old new
+Answered command known read_rose write_rose old new status.Usage =
+    (is_some command ≡ false) × KnownWritten known old new status.Usage
+Answered command known read_rose write_rose old new s = (is_some command ≡ true) × KnownWritten known old new s

@@ -8,7 +8,7 @@ use Rattle.av1_block.specs.declared.block.Block.{Block}
 use Rattle.av1_tiling.specs.declared.tiling_info.TilingInfo.{TilingInfo}
 use Rattle.av1_tiling.specs.Views.{PlaneView}
 use Rattle.av1_tiling.specs.Frames.{Parameters, State, blank, start}
-use Rattle.av1_rec.specs.declared.header.Header.{Header}
+use Rattle.av1_rec.specs.declared.text.header.Header.{Header}
 use Rattle.av1_rec.specs.Picture.{source_frame}
 
 -- the parameters of a header's frame, cut into tiles so; nothing is kept of other frames

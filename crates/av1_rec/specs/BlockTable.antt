@@ -2,7 +2,7 @@
 use Rattle.std.specs.Prelude.{ℕ, zero, suc, ◌+◌, ◌*◌, ◌/◌, ◌%◌, List, [], ◌∷◌, ◌++◌, Bool, ◌&&◌, nat_le, nat_lt, if◌then◌else◌}
 use Rattle.av1_block.specs.Block.{default_block}
 use Rattle.av1_block.specs.declared.block.Block.{Block}
-use Rattle.av1_rec.specs.declared.block_line.BlockLine.{BlockLine}
+use Rattle.av1_rec.specs.declared.text.block_line.BlockLine.{BlockLine}
 
 -- whether a line's rectangle holds column x of row y
 abbrev pub holds : BlockLine → ℕ → ℕ → Bool

@@ -68,17 +68,17 @@ hex_byte text = do
   Some (high.0 * 16 + low.0, low.1)
 
 -- a sample: four digits, or two
-unfoldable pub sample : Bool → List ℕ → Option (ℕ × List ℕ)
-sample true text = do
+unfoldable pub hex_sample : Bool → List ℕ → Option (ℕ × List ℕ)
+hex_sample true text = do
   high ← hex_byte text
   low ← hex_byte high.1
   Some (high.0 * 256 + low.0, low.1)
-sample false text = hex_byte text
+hex_sample false text = hex_byte text
 
 -- a sample below a limit
 unfoldable pub below : Bool → ℕ → List ℕ → Option (ℕ × List ℕ)
 below wide limit text = do
-  v ← sample wide text
+  v ← hex_sample wide text
   if nat_lt v.0 limit then Some v else None
 
 -- a space, and 0 or 1

@@ -1,17 +1,17 @@
 -- The first eight lines of a text: a frame's format, its rate and the tiles asked for, its type, quantisers,
 -- switches, loop filter deltas and CDEF strengths (AV1 specification, sections 5.9.11 and 5.9.19).
-use Rattle.std.specs.Prelude.{ℕ, ◌≤◌, All, ℤ, List, [], ◌∷◌, Bool, true, false, ◌==◌, ◌||◌, ◌&&◌, if◌then◌else◌, Option, Some, None, codes}
+use Rattle.std.specs.Prelude.{ℕ, ◌≡◌, ◌⊎◌, ◌≤◌, All, ℤ, List, [], ◌∷◌, Bool, true, false, ◌==◌, ◌||◌, ◌&&◌, if◌then◌else◌, Option, Some, None, codes}
 use Rattle.av1_plane.specs.declared.sampling.ChromaSampling.{ChromaSampling}
 use Rattle.av1_plane.specs.declared.sampling.ChromaSampling.TheVariants.{Cs420, Cs422, Cs444, Cs400}
 use Rattle.av1_tiling.specs.declared.deblock_state.DeblockState.{DeblockState}
 use Rattle.av1_tiling.specs.declared.frame_invariants.FrameType.{FrameType}
 use Rattle.av1_tiling.specs.declared.frame_invariants.FrameType.TheVariants.{KEY, INTER}
-use Rattle.av1_rec.specs.declared.header.FrameFormat.{FrameFormat}
-use Rattle.av1_rec.specs.declared.header.Header.{Header}
-use Rattle.av1_rec.specs.declared.header.TilingTarget.{TilingTarget}
-use Rattle.av1_rec.specs.declared.header.Quantizers.{Quantizers}
-use Rattle.av1_rec.specs.declared.header.Switches.{Switches}
-use Rattle.av1_rec.specs.declared.header.CdefStrengths.{CdefStrengths}
+use Rattle.av1_rec.specs.declared.text.header.FrameFormat.{FrameFormat}
+use Rattle.av1_rec.specs.declared.text.header.Header.{Header}
+use Rattle.av1_rec.specs.declared.text.header.TilingTarget.{TilingTarget}
+use Rattle.av1_rec.specs.declared.text.header.Quantizers.{Quantizers}
+use Rattle.av1_rec.specs.declared.text.header.Switches.{Switches}
+use Rattle.av1_rec.specs.declared.text.header.CdefStrengths.{CdefStrengths}
 use Rattle.av1_rec.specs.Fields.{◌>>=◌, option_bind, tag, field, delta, flag}
 
 -- the number by which a text names a sampling
@@ -132,10 +132,15 @@ cdef_line text = do
   rest ← tag (codes "\n") uv.1
   Some (record { damping = damping.0; y_strengths = y.0; uv_strengths = uv.0 }, rest)
 
+-- a bit depth of samples
+abbrev pub IsSampleDepth : ℕ → Type 0
+IsSampleDepth d = (d ≡ 8) ⊎ ((d ≡ 10) ⊎ (d ≡ 12))
+
 -- the numbers of a right header are within their bounds
 pub record IsHeader (h : Header) : Type 0 where
   pub width : (1 ≤ h.format.width) × (h.format.width ≤ 65536)
   pub height : (1 ≤ h.format.height) × (h.format.height ≤ 65536)
+  pub depth : IsSampleDepth h.format.depth
   pub shift : h.deblock.block_delta_shift ≤ 3
   pub damping : (3 ≤ h.cdef.damping) × (h.cdef.damping ≤ 6)
   pub y_strengths : All (λ s. s ≤ 63) h.cdef.y_strengths

@@ -2,11 +2,11 @@
 use Rattle.std.specs.Prelude.{◌≡◌, ℕ, zero, suc, ◌+◌, ℤ, pos, List, [], ◌∷◌, Bool, length, map, Option, Some, None, Result, Ok, Err, codes}
 use Rattle.std.specs.Global.{Vec}
 use Rattle.av1_plane.specs.declared.three.Three.{Three}
-use Rattle.av1_rec.specs.declared.extent.Extent.{Extent}
-use Rattle.av1_rec.specs.declared.fault.Fault.{Fault}
-use Rattle.av1_rec.specs.declared.fault.Fault.TheVariants.{Wrong}
-use Rattle.av1_rec.specs.declared.fault.TextError.{TextError}
-use Rattle.av1_rec.specs.declared.fault.TextError.TheVariants as errors
+use Rattle.av1_rec.specs.declared.text.extent.Extent.{Extent}
+use Rattle.av1_rec.specs.declared.text.fault.Fault.{Fault}
+use Rattle.av1_rec.specs.declared.text.fault.Fault.TheVariants.{Wrong}
+use Rattle.av1_rec.specs.declared.text.fault.TextError.{TextError}
+use Rattle.av1_rec.specs.declared.text.fault.TextError.TheVariants as errors
 use Rattle.av1_rec.specs.Fields.{tag, below, option_bind}
 
 infixl 10 ◌>>=◌
@@ -28,8 +28,8 @@ abbrev pub line_or : {A : Type 0} → ℕ → Option A → Result A Fault
 line_or left None = Err (Wrong left)
 line_or left (Some x) = Ok x
 
-abbrev pub line : {A : Type 0} → (List ℕ → Option A) → List ℕ → Result A Fault
-line read text = line_or (length text) (read text)
+abbrev pub text_line : {A : Type 0} → (List ℕ → Option A) → List ℕ → Result A Fault
+text_line read text = line_or (length text) (read text)
 
 -- `count` samples below a limit, and a line feed
 unfoldable pub row : Bool → ℕ → ℕ → List ℕ → Option (List ℤ × List ℕ)
@@ -45,23 +45,28 @@ many read (suc count) text = do
   Ok (first.0 ∷ others.0, others.1)
 
 -- `height` such lines
-abbrev pub rows : Bool → ℕ → ℕ → ℕ → List ℕ → Result (List (List ℤ) × List ℕ) Fault
-rows wide limit width height text = many (line (row wide limit width)) height text
+abbrev pub text_rows : Bool → ℕ → ℕ → ℕ → List ℕ → Result (List (List ℤ) × List ℕ) Fault
+text_rows wide limit width height text = many (text_line (row wide limit width)) height text
 
 -- luma rows and the rows of two chroma planes
 unfoldable pub planes : Bool → ℕ → Extent → Extent → List ℕ → Result (Three (List (List ℤ)) × List ℕ) Fault
 planes wide limit luma chroma text = do
-  y ← rows wide limit luma.width luma.height text
-  u ← rows wide limit chroma.width chroma.height y.1
-  v ← rows wide limit chroma.width chroma.height u.1
+  y ← text_rows wide limit luma.width luma.height text
+  u ← text_rows wide limit chroma.width chroma.height y.1
+  v ← text_rows wide limit chroma.width chroma.height u.1
   Ok (record { y = y.0; u = u.0; v = v.0 }, v.1)
 
--- the numbers in rows, and in the rows of each plane
-abbrev pub said_rows : {X : Type 0} → (X → ℤ) → Vec (Vec X) → List (List ℤ)
-said_rows number rows = map (λ row. map number row.items) rows.items
+-- the numbers in rows
+abbrev pub numbers_of : {X : Type 0} → (X → ℤ) → List (Vec X) → List (List ℤ)
+numbers_of number rows = map (λ row. map number row.items) rows
 
+-- the numbers in the rows of each plane
 abbrev pub said_planes : {X : Type 0} → (X → ℤ) → Three (Vec (Vec X)) → Three (List (List ℤ))
-said_planes number p = record { y = said_rows number p.y; u = said_rows number p.u; v = said_rows number p.v }
+said_planes number p = record {
+  y = numbers_of number p.y.items;
+  u = numbers_of number p.u.items;
+  v = numbers_of number p.v.items;
+}
 
 -- parts that begin with their numbers, from n on
 unfoldable pub numbered : {A : Type 0} → (ℕ → List ℕ → Result (A × List ℕ) Fault) → ℕ → ℕ → List ℕ → Result (List A × List ℕ) Fault

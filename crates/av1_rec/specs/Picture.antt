@@ -8,20 +8,20 @@ use Rattle.av1_plane.specs.Layout.{frame_layout, nearest, visible}
 use Rattle.av1_plane.specs.Numbers.{InDepth}
 use Rattle.av1_plane.specs.Sampling.{decimation}
 use Rattle.av1_tiling.specs.Views.{PlaneView}
-use Rattle.av1_rec.specs.declared.extent.Extent.{Extent}
-use Rattle.av1_rec.specs.declared.header.FrameFormat.{FrameFormat}
+use Rattle.av1_rec.specs.declared.text.extent.Extent.{Extent}
+use Rattle.av1_rec.specs.declared.text.header.FrameFormat.{FrameFormat}
 use Rattle.av1_rec.specs.BlockTable.{first_values}
 use Rattle.av1_rec.specs.Recorded.{have_sides}
-use Rattle.av1_rec.specs.Text.{picture, chroma_picture}
+use Rattle.av1_rec.specs.Text.{luma_picture, chroma_picture}
 
 -- the sample at column x of row y, or 0 past the end
-abbrev pub sample_of : List (List ℤ) → ℕ → ℕ → ℤ
-sample_of rows x y = slice_index_or (slice_index_or rows y []) x (pos 0)
+abbrev pub picture_sample : List (List ℤ) → ℕ → ℕ → ℤ
+picture_sample rows x y = slice_index_or (slice_index_or rows y []) x (pos 0)
 
 -- the picture's sample that is the nearest to a stored place
 abbrev pub nearest_sample : PlaneConfig → ℕ → ℕ → List (List ℤ) → ℕ → ℕ → ℤ
 nearest_sample cfg width height rows x y =
-    sample_of rows (nearest cfg.xorigin width x - cfg.xorigin) (nearest cfg.yorigin height y - cfg.yorigin)
+    picture_sample rows (nearest cfg.xorigin width x - cfg.xorigin) (nearest cfg.yorigin height y - cfg.yorigin)
 
 -- a plane of this layout that holds the picture of a frame of these sides
 abbrev pub picture_plane : PlaneConfig → ℕ → ℕ → List (List ℤ) → PlaneView
@@ -45,8 +45,8 @@ abbrev pub AreRowsOf : Extent → List (List ℤ) → Type 0
 AreRowsOf sides rows = have_sides (sides.width, sides.height) rows ≡ true
 
 -- the rows of each plane have the sides of the picture in it
-pub record HasPicture (f : FrameFormat) (s : Three (List (List ℤ))) : Type 0 where
-  pub y : AreRowsOf (picture f) s.y
+pub record HasPictureRows (f : FrameFormat) (s : Three (List (List ℤ))) : Type 0 where
+  pub y : AreRowsOf (luma_picture f) s.y
   pub u : AreRowsOf (chroma_picture f (decimation f.sampling)) s.u
   pub v : AreRowsOf (chroma_picture f (decimation f.sampling)) s.v
 

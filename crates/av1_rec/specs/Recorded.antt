@@ -11,8 +11,8 @@ use Rattle.av1_tiling.specs.declared.tiling_info.TilingInfo.{TilingInfo}
 use Rattle.av1_tiling.specs.TileRects.{tile_superblock}
 use Rattle.av1_tiling.specs.Views.{View, TileState, plane_at, with_samples, with_blocks}
 use Rattle.av1_rec.specs.Lines.{said_planes}
-use Rattle.av1_rec.specs.declared.recorded_tile.RecordedTile.{RecordedTile}
-use Rattle.av1_rec.specs.declared.recorded_tile.RecordedTile.TheVariants as kept
+use Rattle.av1_rec.specs.declared.coder.recorded_tile.RecordedTile.{RecordedTile}
+use Rattle.av1_rec.specs.declared.coder.recorded_tile.RecordedTile.TheVariants as kept
 
 -- a recorded result: the coder refused the tile, or gave its bytes, the rows of its samples inside each plane, and its
 -- blocks
@@ -31,9 +31,9 @@ begins_at t superblock n =
     nat_lt n (t.cols * t.rows) && ((tile_superblock t n).0 == superblock.0 && (tile_superblock t n).1 == superblock.1)
 
 -- of the entries of the tiles from n on, the first whose tile begins there
-unfoldable pub entry_at : {E : Type 0} → TilingInfo → ℕ × ℕ → ℕ → List E → Option E
-entry_at t superblock n [] = None
-entry_at t superblock n (e ∷ es) = if begins_at t superblock n then Some e else entry_at t superblock (n + 1) es
+unfoldable pub recorded_entry : {E : Type 0} → TilingInfo → ℕ × ℕ → ℕ → List E → Option E
+recorded_entry t superblock n [] = None
+recorded_entry t superblock n (e ∷ es) = if begins_at t superblock n then Some e else recorded_entry t superblock (n + 1) es
 
 -- how much of a line of this length from `start` on is before the end of a plane that is `inside` long from `origin` on
 abbrev pub length_inside : (origin inside start length : ℕ) → ℕ
@@ -46,9 +46,13 @@ sides_inside t pli =
     let rect = (plane_at t.rec pli).rect in
     (length_inside cfg.xorigin cfg.width rect.x rect.width, length_inside cfg.yorigin cfg.height rect.y rect.height)
 
+-- each row is so long
+abbrev pub are_long : {E : Type 0} → ℕ → List (List E) → Bool
+are_long width rows = list_all (λ row. length row == width) rows
+
 -- so many rows, each so long
 abbrev pub have_sides : {E : Type 0} → ℕ × ℕ → List (List E) → Bool
-have_sides sides rows = length rows == sides.1 && list_all (λ row. length row == sides.0) rows
+have_sides sides rows = length rows == sides.1 && are_long sides.0 rows
 
 -- the rows, one behind another
 abbrev pub joined : {E : Type 0} → List (List E) → List E
@@ -81,4 +85,4 @@ entry_meaning (Some (Coded bytes rows blocks)) v =
 
 -- what the results recorded for the tiles of a grid make of it
 abbrev pub recorded_meaning : TilingInfo → List Recorded → View → Option (List ℕ × View)
-recorded_meaning tiling results v = entry_meaning (entry_at tiling v.ts.superblock 0 results) v
+recorded_meaning tiling results v = entry_meaning (recorded_entry tiling v.ts.superblock 0 results) v

@@ -2,8 +2,8 @@
 use Rattle.std.specs.Prelude.{ℕ, List, [], ◌++◌, codes, decimal}
 use Rattle.av1_frame.specs.declared.group_error.GroupError.{GroupError}
 use Rattle.av1_frame.specs.declared.group_error.GroupError.TheVariants as errors
-use Rattle.av1_rec.specs.declared.status.Status.{Status}
-use Rattle.av1_rec.specs.declared.status.Status.TheVariants.{Done, OutOfMemory, Usage, ReadFault, TooLong, Syntax, NoTiling, Group, WriteFault, NotBuilt}
+use Rattle.av1_rec.specs.declared.program.status.Status.{Status}
+use Rattle.av1_rec.specs.declared.program.status.Status.TheVariants.{Done, OutOfMemory, Usage, ReadFault, TooLong, Syntax, NoTiling, Group, WriteFault, NotBuilt}
 
 abbrev pub status_code : Status → ℕ
 status_code Done = 0

@@ -1,9 +1,11 @@
--- What the sources in memory have left, what was written to the sinks in memory, and which of their calls fail.
-use Rattle.std.specs.Prelude.{ℕ, ◌+◌, ◌-◌, ◌^◌, min, List, drop}
-use Rattle.av1_rec.specs.declared.memory_source.MemorySource.{MemorySource}
-use Rattle.av1_rec.specs.declared.memory_source.PlainSource.{PlainSource}
-use Rattle.av1_rec.specs.declared.memory_sink.MemorySink.{MemorySink}
-use Rattle.av1_rec.specs.declared.memory_sink.PlainSink.{PlainSink}
+-- What the sources in memory have left, what was written to the sinks in memory, which of their calls fail, and what the sink
+-- over std's writer tells.
+use Rattle.std.specs.Prelude.{ℕ, ◌+◌, ◌-◌, ◌^◌, min, List, drop, Option}
+use Rattle.av1_rec.specs.declared.program.memory_source.MemorySource.{MemorySource}
+use Rattle.av1_rec.specs.declared.program.memory_source.PlainSource.{PlainSource}
+use Rattle.av1_rec.specs.declared.program.memory_sink.MemorySink.{MemorySink}
+use Rattle.av1_rec.specs.declared.program.memory_sink.PlainSink.{PlainSink}
+use Rattle.av1_rec.specs.declared.program.std_streams.WriteSink.{WriteSink}
 
 abbrev pub source_left : MemorySource → List ℕ
 source_left s = drop s.at s.bytes.items
@@ -41,6 +43,13 @@ failing_writes s = s.failing.items
 
 abbrev pub faults_written : MemorySink → ℕ
 faults_written s = s.faults
+
+-- what the writer of a sink over std's writer tells of its bytes, and how often the sink failed
+abbrev pub writer_bytes : {W : Type 0} → (W → Option (List ℕ)) → WriteSink W → Option (List ℕ)
+writer_bytes contents s = contents s.writer
+
+abbrev pub write_faults : {W : Type 0} → WriteSink W → ℕ
+write_faults s = s.faults
 
 -- the number of calls after one more; at its greatest it stands still
 abbrev pub one_more : ℕ → ℕ

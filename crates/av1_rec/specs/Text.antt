@@ -1,65 +1,74 @@
 -- The whole text: the header, the source's rows, each tile's result, and the last line. What is said of it is the
--- fault of the first wrong line, that there is no tiling (AV1 specification, section 5.9.15), or what it says.
-use Rattle.std.specs.Prelude.{ℕ, ◌+◌, ◌-◌, ◌*◌, ◌/◌, ◌^◌, ℤ, List, map, take, length, Bool, true, false, ◌==◌, nat_lt, if◌then◌else◌, Option, Some, None, Result, Ok, Err, codes}
+-- fault of the first wrong text_line, that there is no tiling (AV1 specification, section 5.9.15), or what it says.
+use Rattle.std.specs.Prelude.{ℕ, ◌+◌, ◌-◌, ◌*◌, ◌/◌, ◌^◌, ℤ, List, map, take, length, Bool, ◌==◌, nat_lt, if◌then◌else◌, Option, Some, None, Result, Ok, Err, codes}
 use Rattle.std.specs.List.{count_by}
 use Rattle.av1_plane.specs.declared.three.Three.{Three}
-use Rattle.av1_plane.specs.declared.sampling.ChromaSampling.{ChromaSampling}
-use Rattle.av1_plane.specs.declared.sampling.ChromaSampling.TheVariants.{Cs420, Cs422, Cs444, Cs400}
 use Rattle.av1_plane.specs.Layout.{visible}
 use Rattle.av1_plane.specs.Sampling.{decimation}
 use Rattle.av1_tiling.specs.declared.tiling_info.TilingInfo.{TilingInfo}
+use Rattle.av1_tiling.specs.Frames.{is_422}
 use Rattle.av1_tiling.specs.Grid.{grid}
 use Rattle.av1_tiling.specs.TileRects.{tile_luma, tile_blocks}
-use Rattle.av1_rec.specs.declared.extent.Extent.{Extent}
-use Rattle.av1_rec.specs.declared.extent.TileShape.{TileShape}
-use Rattle.av1_rec.specs.declared.fault.Fault.{Fault}
-use Rattle.av1_rec.specs.declared.fault.Fault.TheVariants.{Wrong, NoTiling}
-use Rattle.av1_rec.specs.declared.header.FrameFormat.{FrameFormat}
-use Rattle.av1_rec.specs.declared.header.Header.{Header}
+use Rattle.av1_rec.specs.declared.text.extent.Extent.{Extent}
+use Rattle.av1_rec.specs.declared.text.extent.TileShape.{TileShape}
+use Rattle.av1_rec.specs.declared.text.fault.Fault.{Fault}
+use Rattle.av1_rec.specs.declared.text.fault.Fault.TheVariants.{Wrong, NoTiling}
+use Rattle.av1_rec.specs.declared.text.header.FrameFormat.{FrameFormat}
+use Rattle.av1_rec.specs.declared.text.header.Header.{Header}
 use Rattle.av1_rec.specs.declared.text.Text.{Text}
 use Rattle.av1_rec.specs.Built.{built, is_built}
 use Rattle.av1_rec.specs.Fields.{tag}
 use Rattle.av1_rec.specs.Header.{frame_line, tiling_line, type_line, quant_line, switches_line, deltas_line, cdef_line}
-use Rattle.av1_rec.specs.Lines.{◌>>=◌, line, planes, numbered, said_planes}
+use Rattle.av1_rec.specs.Lines.{◌>>=◌, text_line, planes, numbered, said_planes}
 use Rattle.av1_rec.specs.UnitTables.{tile_unit_extents}
-use Rattle.av1_rec.specs.Tile.{SaidTile, tile, said_tile}
+use Rattle.av1_rec.specs.Recorded.{Recorded, recorded}
+use Rattle.av1_rec.specs.Tile.{tile}
 
--- what a text says
+-- what a text says, and the tiling of its frame
 pub record Said : Type 0 where
   pub header : Header
+  pub tiling : TilingInfo
   pub source : Three (List (List ℤ))
-  pub tiles : List SaidTile
+  pub tiles : List Recorded
 
 -- the eight header lines
 unfoldable pub header : List ℕ → Result (Header × List ℕ) Fault
 header text = do
-  rest ← line (tag (codes "av1rec 1\n")) text
-  f ← line frame_line rest
-  t ← line tiling_line f.1
-  k ← line type_line t.1
-  q ← line quant_line k.1
-  s ← line (switches_line f.0) q.1
-  d ← line deltas_line s.1
-  c ← line cdef_line d.1
+  rest ← text_line (tag (codes "av1rec 1\n")) text
+  f ← text_line frame_line rest
+  t ← text_line tiling_line f.1
+  k ← text_line type_line t.1
+  q ← text_line quant_line k.1
+  s ← text_line (switches_line f.0) q.1
+  d ← text_line deltas_line s.1
+  c ← text_line cdef_line d.1
   Ok (record { format = f.0; target = t.0; frame_type = k.0; quantizers = q.0; switches = s.0; deblock = d.0; cdef = c.0 }, c.1)
 
--- at 4:2:2 tiles have an even number of superblocks in a row
-abbrev pub is_422 : ChromaSampling → Bool
-is_422 Cs400 = false
-is_422 Cs420 = false
-is_422 Cs422 = true
-is_422 Cs444 = false
-
--- the tiling of a header's frame, in superblocks of 64 samples
+-- the tiling of a header's frame, in superblocks of 64 samples; at 4:2:2 tiles have an even number of them in a row
 unfoldable pub tiling : Header → Result TilingInfo Fault
-tiling h = elim (grid 6 h.format.width h.format.height h.target.num h.target.den h.target.cols_log2 h.target.rows_log2 (is_422 h.format.sampling)) [ Some t ↦ Ok t | None ↦ Err NoTiling ]
+tiling h =
+    let even = is_422 h.format.sampling in
+    let f = h.format in
+    let target = h.target in
+    elim (grid 6 f.width f.height target.num target.den target.cols_log2 target.rows_log2 even) [
+      | Some t ↦ Ok t
+      | None ↦ Err NoTiling
+    ]
 
+-- the header, the tiling of its frame, and the bytes behind
+unfoldable pub tiled_header : List ℕ → Result (Header × TilingInfo × List ℕ) Fault
+tiled_header text = do
+  h ← header text
+  t ← tiling h.0
+  Ok (h.0, t, h.1)
+
+-- no samples in a plane
 abbrev pub no_samples : Extent
 no_samples = record { width = 0; height = 0 }
 
 -- the samples of the picture: luma, and each chroma plane
-abbrev pub picture : FrameFormat → Extent
-picture f = record { width = f.width; height = f.height }
+abbrev pub luma_picture : FrameFormat → Extent
+luma_picture f = record { width = f.width; height = f.height }
 
 abbrev pub chroma_picture : FrameFormat → Option (ℕ × ℕ) → Extent
 chroma_picture f None = no_samples
@@ -70,10 +79,10 @@ abbrev pub is_wide : FrameFormat → Bool
 is_wide f = nat_lt 8 f.depth
 
 -- the picture's rows, of samples in the frame's depth
-unfoldable pub source : FrameFormat → List ℕ → Result (Three (List (List ℤ)) × List ℕ) Fault
-source f text = do
-  rest ← line (tag (codes "source\n")) text
-  planes (is_wide f) (2 ^ f.depth) (picture f) (chroma_picture f (decimation f.sampling)) rest
+unfoldable pub source_rows : FrameFormat → List ℕ → Result (Three (List (List ℤ)) × List ℕ) Fault
+source_rows f text = do
+  rest ← text_line (tag (codes "source\n")) text
+  planes (is_wide f) (2 ^ f.depth) (luma_picture f) (chroma_picture f (decimation f.sampling)) rest
 
 -- the samples of tile n inside the frame, and its blocks
 abbrev pub luma_of : TilingInfo → ℕ → Extent
@@ -89,30 +98,34 @@ blocks_of t n = record { width = (tile_blocks t n).width; height = (tile_blocks 
 unfoldable pub tile_shape : FrameFormat → TilingInfo → ℕ → TileShape
 tile_shape f t n = record { luma = luma_of t n; chroma = chroma_of t n (decimation f.sampling); blocks = blocks_of t n }
 
--- the results of all tiles, in order
-unfoldable pub tiles : Header → TilingInfo → List ℕ → Result (List SaidTile × List ℕ) Fault
-tiles h t text = numbered (λ n. tile (is_wide h.format) (tile_shape h.format t n) (tile_unit_extents h t n) n) 0 (t.cols * t.rows) text
+-- the result of tile n
+abbrev pub tile_at : Header → TilingInfo → ℕ → List ℕ → Result (Recorded × List ℕ) Fault
+tile_at h t n text = tile (is_wide h.format) (tile_shape h.format t n) (tile_unit_extents h t n) n text
 
--- the last line, and nothing after it
+-- the results of all tiles, in order
+unfoldable pub tiles : Header → TilingInfo → List ℕ → Result (List Recorded × List ℕ) Fault
+tiles h t text = numbered (tile_at h t) 0 (t.cols * t.rows) text
+
+-- the last text_line, and nothing after it
 unfoldable pub end : List ℕ → Result (Unit {0}) Fault
 end text = do
-  rest ← line (tag (codes "end\n")) text
+  rest ← text_line (tag (codes "end\n")) text
   if length rest == 0 then Ok tt else Err (Wrong (length rest))
 
 -- what follows the header
 unfoldable pub body : Header → TilingInfo → List ℕ → Result Said Fault
 body h t text = do
-  picture ← source h.format text
+  picture ← source_rows h.format text
   results ← tiles h t picture.1
   _ ← end results.1
-  Ok (record { header = h; source = picture.0; tiles = results.0 })
+  Ok (record { header = h; tiling = t; source = picture.0; tiles = results.0 })
 
+-- the whole text
 unfoldable pub text_of : List ℕ → Result Said Fault
 text_of text = do
-  h ← header text
-  _ ← built (is_built h.0)
-  t ← tiling h.0
-  body h.0 t h.1
+  h ← tiled_header text
+  _ ← built (is_built h.0 h.1)
+  body h.0 h.1 h.2
 
 -- the number of the line that begins where so many bytes are left, or of which a part begins there
 unfoldable pub line_number : List ℕ → ℕ → ℕ
@@ -120,4 +133,9 @@ line_number text left = count_by (λ c. c == 10) (take (length text - left) text
 
 -- what the program keeps of a text, as said by it
 abbrev pub said : {X : Type 0} → (X → ℤ) → Text X → Said
-said number t = record { header = t.header; source = said_planes number t.source; tiles = map (said_tile number) t.tiles.items }
+said number t = record {
+  header = t.header;
+  tiling = t.tiling;
+  source = said_planes number t.source;
+  tiles = map (recorded number) t.tiles.items;
+}

@@ -1,24 +1,18 @@
 -- A tile's recorded result: `tile N refused`, or `tile N BYTES`, the rows of its samples inside the frame, its
 -- blocks and its restoration units.
-use Rattle.std.specs.Prelude.{ℕ, ◌/◌, ◌+◌, ℤ, List, [], ◌∷◌, ◌==◌, length, nat_lt, Bool, if◌then◌else◌, Option, Some, None, Result, Ok, Err, codes}
+use Rattle.std.specs.Prelude.{ℕ, ◌/◌, ◌+◌, List, [], ◌∷◌, ◌==◌, length, nat_lt, Bool, if◌then◌else◌, Option, Some, None, Result, Ok, Err, codes}
 use Rattle.av1_plane.specs.declared.three.Three.{Three}
-use Rattle.av1_rec.specs.declared.block_line.BlockLine.{BlockLine}
-use Rattle.av1_rec.specs.declared.extent.Extent.{Extent}
-use Rattle.av1_rec.specs.declared.extent.TileShape.{TileShape}
-use Rattle.av1_rec.specs.declared.fault.Fault.{Fault}
-use Rattle.av1_rec.specs.declared.fault.Fault.TheVariants.{Wrong}
-use Rattle.av1_rec.specs.declared.tile_text.TileText.{TileText}
-use Rattle.av1_rec.specs.declared.tile_text.TileText.TheVariants as texts
+use Rattle.av1_rec.specs.declared.text.extent.Extent.{Extent}
+use Rattle.av1_rec.specs.declared.text.extent.TileShape.{TileShape}
+use Rattle.av1_rec.specs.declared.text.fault.Fault.{Fault}
+use Rattle.av1_rec.specs.declared.text.fault.Fault.TheVariants.{Wrong}
 use Rattle.av1_rec.specs.Blocks.{block_line}
+use Rattle.av1_rec.specs.BlockTable.{blocks_said}
 use Rattle.av1_rec.specs.Built.{built, is_built_count}
 use Rattle.av1_rec.specs.Fields.{tag, field, hex_byte, option_bind}
-use Rattle.av1_rec.specs.Lines.{◌>>=◌, line, many, planes, said_planes}
+use Rattle.av1_rec.specs.Lines.{◌>>=◌, text_line, many, planes}
+use Rattle.av1_rec.specs.Recorded.{Recorded, Refused, Coded}
 use Rattle.av1_rec.specs.Units.{UnitLine, unit_line}
-
--- a tile's result
-pub data SaidTile : Type 0 where
-  Refused : SaidTile
-  Coded : List ℕ → Three (List (List ℤ)) → List BlockLine → List UnitLine → SaidTile
 
 -- how many bytes stand before the line feed
 unfoldable pub line_length : List ℕ → ℕ
@@ -28,11 +22,11 @@ line_length (c ∷ cs) = if c == 10 then 0 else line_length cs + 1
 -- at least one byte in hexadecimal digits
 unfoldable pub hex_line : List ℕ → Result (List ℕ × List ℕ) Fault
 hex_line text = if nat_lt (line_length text) 2 then Err (Wrong (length text)) else (do
-  bytes ← many (line hex_byte) (line_length text / 2) text
-  rest ← line (tag (codes "\n")) bytes.1
+  bytes ← many (text_line hex_byte) (line_length text / 2) text
+  rest ← text_line (tag (codes "\n")) bytes.1
   Ok (bytes.0, rest))
 
--- BYTES: `-` for none, or those
+-- BYTES: `-` for none, or at least one
 unfoldable pub bytes_line : List ℕ → Result (List ℕ × List ℕ) Fault
 bytes_line text = elim (tag (codes "-\n") text) [ Some rest ↦ Ok ([], rest) | None ↦ hex_line text ]
 
@@ -43,37 +37,33 @@ count_line word text = option_bind (tag word text) (λ rest. option_bind (field 
 -- `units COUNT` and so many lines
 unfoldable pub unit_lines : Three Extent → List ℕ → Result (List UnitLine × List ℕ) Fault
 unit_lines units text = do
-  count ← line (count_line (codes "units")) text
+  count ← text_line (count_line (codes "units")) text
   _ ← built (is_built_count count.0)
-  many (line (unit_line units)) count.0 count.1
+  many (text_line (unit_line units)) count.0 count.1
 
 -- samples of four digits have 16 bits, those of two 8
 abbrev pub digit_limit : Bool → ℕ
 digit_limit wide = if wide then 65536 else 256
 
--- BYTES, the rows of each plane, and the lines of blocks and of units
-unfoldable pub coded : Bool → TileShape → Three Extent → List ℕ → Result (SaidTile × List ℕ) Fault
+-- BYTES, the rows of each plane, the blocks that lines write, and the lines of units
+unfoldable pub coded : Bool → TileShape → Three Extent → List ℕ → Result (Recorded × List ℕ) Fault
 coded wide shape units text = do
   bytes ← bytes_line text
   rows ← planes wide (digit_limit wide) shape.luma shape.chroma bytes.1
-  count ← line (count_line (codes "blocks")) rows.1
-  blocks ← many (line (block_line shape.blocks.width shape.blocks.height)) count.0 count.1
-  units ← unit_lines units blocks.1
-  Ok (Coded bytes.0 rows.0 blocks.0 units.0, units.1)
+  count ← text_line (count_line (codes "blocks")) rows.1
+  lines ← many (text_line (block_line shape.blocks.width shape.blocks.height)) count.0 count.1
+  units ← unit_lines units lines.1
+  Ok (Coded bytes.0 rows.0 (blocks_said shape.blocks.width shape.blocks.height lines.0), units.1)
 
--- `refused`, or that
-unfoldable pub tile_result : Bool → TileShape → Three Extent → List ℕ → Result (SaidTile × List ℕ) Fault
-tile_result wide shape units text = elim (tag (codes "refused\n") text) [ Some rest ↦ Ok (Refused, rest) | None ↦ coded wide shape units text ]
+-- `refused`, or a coded tile
+unfoldable pub tile_result : Bool → TileShape → Three Extent → List ℕ → Result (Recorded × List ℕ) Fault
+tile_result wide shape units text =
+    elim (tag (codes "refused\n") text) [ Some rest ↦ Ok (Refused, rest) | None ↦ coded wide shape units text ]
 
 -- `tile N` and its result
-unfoldable pub tile : Bool → TileShape → Three Extent → ℕ → List ℕ → Result (SaidTile × List ℕ) Fault
+unfoldable pub tile : Bool → TileShape → Three Extent → ℕ → List ℕ → Result (Recorded × List ℕ) Fault
 tile wide shape units n text = do
-  rest ← line (tag (codes "tile")) text
-  number ← line (field n n) rest
-  rest ← line (tag (codes " ")) number.1
+  rest ← text_line (tag (codes "tile")) text
+  number ← text_line (field n n) rest
+  rest ← text_line (tag (codes " ")) number.1
   tile_result wide shape units rest
-
--- what the program keeps of a tile's result, as said by the text
-abbrev pub said_tile : {X : Type 0} → (X → ℤ) → TileText X → SaidTile
-said_tile number texts.Refused = Refused
-said_tile number (texts.Coded bytes rows blocks) = Coded bytes.items (said_planes number rows) blocks.items []

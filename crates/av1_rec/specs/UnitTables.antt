@@ -7,9 +7,9 @@ use Rattle.av1_plane.specs.Sampling.{decimation}
 use Rattle.av1_tiling.specs.declared.tiling_info.TilingInfo.{TilingInfo}
 use Rattle.av1_tiling.specs.Least.{least}
 use Rattle.av1_tiling.specs.TileRects.{tile_units}
-use Rattle.av1_rec.specs.declared.extent.Extent.{Extent}
-use Rattle.av1_rec.specs.declared.header.FrameFormat.{FrameFormat}
-use Rattle.av1_rec.specs.declared.header.Header.{Header}
+use Rattle.av1_rec.specs.declared.text.extent.Extent.{Extent}
+use Rattle.av1_rec.specs.declared.text.header.FrameFormat.{FrameFormat}
+use Rattle.av1_rec.specs.declared.text.header.Header.{Header}
 
 -- the shifts from luma to the planes in which chroma units lie; without chroma they lie as luma's
 abbrev pub unit_decimation : Option (ℕ × ℕ) → ℕ × ℕ
@@ -28,15 +28,15 @@ abbrev pub is_stretched : FrameFormat → ℕ → Bool
 is_stretched f unit = nat_le ((f.width / 2 - 1) % unit) (unit / 2) || nat_le ((f.height / 2 - 1) % unit) (unit / 2)
 
 -- whether chroma units are half of luma's where units may be large
-abbrev pub is_halved : FrameFormat → ℕ → Bool
-is_halved f base = if base == 2 then true else (if is_stretched f (256 / 2 ^ base) then (if is_stretched f (128 / 2 ^ base) then false else true) else false)
+abbrev pub has_halved_units : FrameFormat → ℕ → Bool
+has_halved_units f base = if base == 2 then true else (if is_stretched f (256 / 2 ^ base) then (if is_stretched f (128 / 2 ^ base) then false else true) else false)
 
 -- the sides wished for, of luma and of chroma units
 abbrev pub wished : Header → (ℕ × ℕ) → ℕ × ℕ
 wished h d =
     let base = shrink h.quantizers.base_q_idx in
     let small = if is_420 d then 5 else 6 in
-    let large = if is_420 d then (if is_halved h.format base then 7 - base else 8 - base) else 8 - base in
+    let large = if is_420 d then (if has_halved_units h.format base then 7 - base else 8 - base) else 8 - base in
     if h.switches.enable_large_lru && h.switches.enable_restoration then (8 - base, large) else (6, small)
 
 -- how often 2 divides a number that isn't 0

@@ -2,7 +2,7 @@
 -- section 5.11.58).
 use Rattle.std.specs.Prelude.{ℕ, ℤ, List, [], ◌∷◌, ◌==◌, nat_lt, if◌then◌else◌, Option, Some, None, codes}
 use Rattle.av1_plane.specs.declared.three.Three.{Three}
-use Rattle.av1_rec.specs.declared.extent.Extent.{Extent}
+use Rattle.av1_rec.specs.declared.text.extent.Extent.{Extent}
 use Rattle.av1_rec.specs.Fields.{◌>>=◌, tag, number_in, field, delta}
 
 -- what a unit does: nothing, the coefficients of both directions, or a set and two weights
@@ -19,8 +19,8 @@ pub record UnitLine : Type 0 where
   pub filter : UnitFilter
 
 -- a space, and a number below a limit
-unfoldable pub place : ℕ → List ℕ → Option (ℕ × List ℕ)
-place limit text = do
+unfoldable pub unit_place : ℕ → List ℕ → Option (ℕ × List ℕ)
+unit_place limit text = do
   n ← field 0 4294967295 text
   if nat_lt n.0 limit then Some n else None
 
@@ -33,8 +33,8 @@ three_taps text = do
   Some (a.0 ∷ b.0 ∷ c.0 ∷ [], c.1)
 
 -- ` wiener A B C D E F`
-unfoldable pub wiener : List ℕ → Option (UnitFilter × List ℕ)
-wiener text = do
+unfoldable pub wiener_unit : List ℕ → Option (UnitFilter × List ℕ)
+wiener_unit text = do
   rest ← tag (codes " wiener") text
   vertical ← three_taps rest
   horizontal ← three_taps vertical.1
@@ -53,7 +53,7 @@ self_guided text = do
 unfoldable pub filter : List ℕ → Option (UnitFilter × List ℕ)
 filter text = elim (tag (codes " none") text) [
   | Some rest ↦ Some (NoFilter, rest)
-  | None ↦ elim (wiener text) [ Some x ↦ Some x | None ↦ self_guided text ]
+  | None ↦ elim (wiener_unit text) [ Some x ↦ Some x | None ↦ self_guided text ]
 ]
 
 -- the entry of a plane
@@ -64,8 +64,8 @@ of_plane p three = if p == 0 then three.y else (if p == 1 then three.u else thre
 unfoldable pub unit_line : Three Extent → List ℕ → Option (UnitLine × List ℕ)
 unit_line units text = do
   p ← number_in 0 2 text
-  x ← place (of_plane p.0 units).width p.1
-  y ← place (of_plane p.0 units).height x.1
+  x ← unit_place (of_plane p.0 units).width p.1
+  y ← unit_place (of_plane p.0 units).height x.1
   f ← filter y.1
   rest ← tag (codes "\n") f.1
   Some (record { plane = p.0; x = x.0; y = y.0; filter = f.0 }, rest)

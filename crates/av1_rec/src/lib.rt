@@ -5,44 +5,20 @@
 //! gives a value and the rest, and each function here equals one of them.
 #![tactic(auto)]
 
-mod begin;
-mod block_line;
-mod block_table;
-mod commands;
-mod extent;
-mod fault;
-mod fields;
-mod group;
-mod header;
-mod header_lines;
-mod hex;
-mod memory_sink;
-mod memory_source;
-mod picture;
+mod coder;
+mod frame;
 mod program;
-mod recorded_coder;
-mod recorded_rows;
-mod recorded_tile;
-mod refusals;
-mod report;
-mod rows;
-mod sink;
-mod source;
-mod status;
-mod std_streams;
 mod text;
-mod tile_text;
-mod transfer;
 
-pub use memory_sink::{MemorySink, PlainSink};
-pub use memory_source::{MemorySource, PlainSource};
+pub use coder::recorded_coder::RecordedCoder;
+pub use coder::recorded_tile::RecordedTile;
+pub use program::memory_sink::{MemorySink, PlainSink};
+pub use program::memory_source::{MemorySource, PlainSource};
 pub use program::run;
-pub use recorded_coder::RecordedCoder;
-pub use recorded_tile::RecordedTile;
-pub use sink::{Sink, SinkError};
-pub use source::{Failed, Source};
-pub use status::Status;
-pub use std_streams::{ReadSource, WriteSink};
+pub use program::sink::{Sink, SinkError};
+pub use program::source::{Failed, Source};
+pub use program::status::Status;
+pub use program::std_streams::{ReadSource, WriteSink};
 
 #[cfg(test)]
 mod tests;

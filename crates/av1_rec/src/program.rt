@@ -1,42 +1,104 @@
-ghost use Rattle.std.specs.Prelude.{◌≡◌, ◌<◌, ◌≤◌, ◌^◌, ◌⊎◌, [], map, length, false, IfSome, IfOk, Some, string_bytes};
-ghost use Rattle.av1_rec.specs.Answer.{asked, text_answer, IsOfText, Made, Finished, Answered};
-ghost use Rattle.av1_rec.specs.Commands.{is_group_one};
-ghost use Rattle.av1_rec.specs.Told.{Rose, Appended, Prefixed};
+//! The run of a program: its words, where bytes come from and go to, how a run ends, and what it prints.
+ghost use Rattle.std.specs.Prelude.{◌≡◌, ◌≤◌, ◌+◌, ◌^◌, map, length, false, true, IfSome, IfOk, Some, [], string_bytes};
+ghost use Rattle.av1_rec.specs.Answer.{fault_answer, text_answer, grid_answer, answer_of, asked, IsOfText, IsFaultless, Made, Finished, Answered};
+ghost use Rattle.av1_rec.specs.Commands.{command_of, asks_for_text};
+ghost use Rattle.av1_rec.specs.Told.{Rose, LosesCount};
 
-use crate::commands::{is_command, is_group_one};
-use crate::fault::{Fault, TextError};
-use crate::group::group;
-use crate::refusals::{line_number, refused};
-use crate::sink::{Sink, SinkError};
-use crate::source::Source;
-use crate::status::Status;
-use crate::text::text_of;
-use crate::transfer::{ReadError, read_text, write_all};
+pub(crate) mod commands;
+pub(crate) mod grid_report;
+pub(crate) mod group;
+pub(crate) mod memory_sink;
+pub(crate) mod memory_source;
+pub(crate) mod refusals;
+pub(crate) mod report;
+pub(crate) mod sink;
+pub(crate) mod source;
+pub(crate) mod status;
+pub(crate) mod std_streams;
+pub(crate) mod transfer;
+
+use crate::program::commands::Command;
+use crate::program::grid_report::grid_report;
+use crate::program::group::group;
+use crate::program::refusals::{line_number, refused};
+use crate::program::sink::{Sink, SinkError};
+use crate::program::source::Source;
+use crate::program::status::Status;
+use crate::program::transfer::{ReadError, read_text, write_all};
+use crate::text::fault::{Fault, TextError};
+use crate::text::{text_of, tiled_header};
 use av1_frame::Gate;
 use std::alloc::{AllocError, Global};
 use std::thread::Threads;
 
-// What a text asks for: a status, and what is printed.
+// Where a text is wrong, has no tiling, or asks for what isn't built.
+fn fault_answer(alloc: Global, text: &[u8], fault: Fault) -> Result<(Status, Vec<u8>), AllocError>
+    requires { length text.now ≤ 2 ^ 28 }
+    ensures value { IfOk result (λ x. (x.0, x.1.items) ≡ fault_answer text.now fault) }
+    ensures kind { IfOk result (λ x. IsOfText x.0) }
+{
+    match fault {
+        Fault::NoTiling => refused(alloc, Status::NoTiling),
+        Fault::NotBuilt => refused(alloc, Status::NotBuilt),
+        Fault::Wrong(left) => {
+            let line = line_number(text, left);
+            refused(alloc, Status::Syntax { line })
+        }
+    }
+}
+
+// What a text asks for, for the report of its frame. The text is let go before the frame is coded.
 #[tactic(auto, unfolding(crate::specs::Answer::text_answer))]
 fn text_answer<R: Threads + Sync, G: Gate>(
     rt: &R,
     alloc: Global,
-    text: &[u8],
+    text: Vec<u8>,
     gate: &G,
 ) -> Result<(Status, Vec<u8>), AllocError>
-    requires { length text.now ≤ 2 ^ 28 }
-    ensures value { IfOk result (λ x. (x.0, x.1.items) ≡ text_answer text.now) }
+    requires { length text.items ≤ 2 ^ 28 }
+    ensures value { IfOk result (λ x. (x.0, x.1.items) ≡ text_answer text.items) }
     ensures kind { IfOk result (λ x. IsOfText x.0) }
 {
-    match text_of(alloc, text) {
-        Ok(text) => group(rt, alloc, text, gate),
-        Err(TextError::OutOfMemory) => Err(AllocError),
-        Err(TextError::Fault(Fault::NoTiling)) => refused(alloc, Status::NoTiling),
-        Err(TextError::Fault(Fault::NotBuilt)) => refused(alloc, Status::NotBuilt),
-        Err(TextError::Fault(Fault::Wrong(left))) => {
-            let line = line_number(text, left);
-            refused(alloc, Status::Syntax { line })
+    match text_of(alloc, &text) {
+        Ok(said) => {
+            drop(text);
+            group(rt, alloc, said, gate)
         }
+        Err(TextError::OutOfMemory) => Err(AllocError),
+        Err(TextError::Fault(fault)) => fault_answer(alloc, &text, fault),
+    }
+}
+
+// What a text asks for, for its tile grid.
+#[tactic(auto, unfolding(crate::specs::Answer::grid_answer))]
+fn grid_answer(alloc: Global, text: &[u8]) -> Result<(Status, Vec<u8>), AllocError>
+    requires { length text.now ≤ 2 ^ 28 }
+    ensures value { IfOk result (λ x. (x.0, x.1.items) ≡ grid_answer text.now) }
+    ensures kind { IfOk result (λ x. IsOfText x.0) }
+{
+    match tiled_header(text) {
+        Ok((_, tiling, _)) => Ok((Status::Done, grid_report(alloc, &tiling)?)),
+        Err(TextError::OutOfMemory) => Err(AllocError),
+        Err(TextError::Fault(fault)) => fault_answer(alloc, text, fault),
+    }
+}
+
+// What a command asks for of a text.
+fn answer_of<R: Threads + Sync, G: Gate>(
+    rt: &R,
+    alloc: Global,
+    command: Command,
+    text: Vec<u8>,
+    gate: &G,
+) -> Result<(Status, Vec<u8>), AllocError>
+    requires { length text.items ≤ 2 ^ 28 }
+    ensures value { IfOk result (λ x. (x.0, x.1.items) ≡ answer_of command text.items) }
+    ensures kind { IfOk result (λ x. IsOfText x.0) }
+{
+    match command {
+        Command::Group { .. } => text_answer(rt, alloc, text, gate),
+        Command::Tiles => grid_answer(alloc, &text),
+        Command::Gen { .. } => refused(alloc, Status::NotBuilt),
     }
 }
 
@@ -49,21 +111,26 @@ fn try_make<R: Threads + Sync, S: Source, G: Gate>(
     source: &mut S,
     gate: &G,
 ) -> Result<(Status, Vec<u8>), AllocError>
-    ensures made { IfOk result (λ x. Made (map string_bytes words.now)
-        (asked (map string_bytes words.now) (S.left source.old))
+    ensures made { let command = command_of (map string_bytes words.now) in IfOk result
+        (λ x. Made command (asked command (S.left source.old))
         (Rose (S.faults source.old) (S.faults source.new)) x.0 x.1.items) }
     ensures drained { IfOk result (λ x. x.0 ≡ Status.Done
         → IfSome (S.left source.old) (λ _. S.left source.new ≡ Some [])) }
-    ensures unread { is_group_one (map string_bytes words.now) ≡ false → source.new ≡ source.old }
+    ensures too_long { IfOk result (λ x. x.0 ≡ Status.TooLong
+        → LosesCount (S.left source.old) (S.left source.new) (2 ^ 28 + 1)) }
+    ensures quiet { IfOk result (λ x. IsFaultless x.0
+        → S.faults source.new ≡ S.faults source.old) }
+    ensures unread { asks_for_text (command_of (map string_bytes words.now)) ≡ false
+        → source.new ≡ source.old }
 {
-    if !is_command(words) {
+    let Some(command) = Command::from_words(words) else {
         return refused(alloc, Status::Usage);
-    }
-    if !is_group_one(words) {
+    };
+    if !command.reads() {
         return refused(alloc, Status::NotBuilt);
     }
     match read_text(alloc, source) {
-        Ok(text) => text_answer(rt, alloc, &text, gate),
+        Ok(text) => answer_of(rt, alloc, command, text, gate),
         Err(ReadError::OutOfMemory) => Err(AllocError),
         Err(ReadError::Fault) => refused(alloc, Status::ReadFault),
         Err(ReadError::TooLong) => refused(alloc, Status::TooLong),
@@ -78,12 +145,16 @@ fn make<R: Threads + Sync, S: Source, G: Gate>(
     source: &mut S,
     gate: &G,
 ) -> (Status, Vec<u8>)
-    ensures made { Made (map string_bytes words.now)
-        (asked (map string_bytes words.now) (S.left source.old))
+    ensures made { let command = command_of (map string_bytes words.now) in
+        Made command (asked command (S.left source.old))
         (Rose (S.faults source.old) (S.faults source.new)) result.0 result.1.items }
     ensures drained { result.0 ≡ Status.Done
         → IfSome (S.left source.old) (λ _. S.left source.new ≡ Some []) }
-    ensures unread { is_group_one (map string_bytes words.now) ≡ false → source.new ≡ source.old }
+    ensures too_long { result.0 ≡ Status.TooLong
+        → LosesCount (S.left source.old) (S.left source.new) (2 ^ 28 + 1) }
+    ensures quiet { IsFaultless result.0 → S.faults source.new ≡ S.faults source.old }
+    ensures unread { asks_for_text (command_of (map string_bytes words.now)) ≡ false
+        → source.new ≡ source.old }
 {
     match try_make(rt, alloc, words, source, gate) {
         Ok(made) => made,
@@ -93,8 +164,10 @@ fn make<R: Threads + Sync, S: Source, G: Gate>(
 
 // Writes what is printed, and says how the run ends.
 fn finish<K: Sink>(sink: &mut K, status: Status, printed: &[u8]) -> Status
-    ensures { Finished status printed.now (Rose (K.faults sink.old) (K.faults sink.new))
+    ensures written { Finished status printed.now (Rose (K.faults sink.old) (K.faults sink.new))
         (K.written sink.old) (K.written sink.new) result }
+    ensures kept { IsFaultless result → result ≡ status }
+    ensures quiet { IsFaultless result → K.faults sink.new ≡ K.faults sink.old }
 {
     match write_all(sink, printed) {
         Ok(()) => status,
@@ -105,8 +178,9 @@ fn finish<K: Sink>(sink: &mut K, status: Status, printed: &[u8]) -> Status
 
 /// Runs the command in `words`, those behind the program's name, and writes what it prints to `sink`.
 ///
-/// `group 1` reads a text from `source` to its end and writes the report of its tile group. Other words
-/// read nothing. The gate is told of each tile that a worker claims.
+/// `group 1` reads a text from `source` to its end and writes the report of its tile group, of one tile
+/// of luma at 8 bits so far; the gate is told of each tile that a worker claims. `tiles` reads a text to
+/// its end and writes the tile grid of its header. Other words read nothing.
 #[tactic(auto, using(crate::proofs::Ends::ends))]
 pub fn run<R: Threads + Sync, S: Source, K: Sink, G: Gate>(
     rt: &R,
@@ -116,14 +190,19 @@ pub fn run<R: Threads + Sync, S: Source, K: Sink, G: Gate>(
     sink: &mut K,
     gate: &G,
 ) -> Status
-    ensures answered { Answered (map string_bytes words.now)
-        (asked (map string_bytes words.now) (S.left source.old))
+    ensures answered { let command = command_of (map string_bytes words.now) in
+        Answered command (asked command (S.left source.old))
         (Rose (S.faults source.old) (S.faults source.new))
         (Rose (K.faults sink.old) (K.faults sink.new))
         (K.written sink.old) (K.written sink.new) result }
     ensures drained { result ≡ Status.Done
         → IfSome (S.left source.old) (λ _. S.left source.new ≡ Some []) }
-    ensures unread { is_group_one (map string_bytes words.now) ≡ false → source.new ≡ source.old }
+    ensures too_long { result ≡ Status.TooLong
+        → LosesCount (S.left source.old) (S.left source.new) (2 ^ 28 + 1) }
+    ensures quiet_source { IsFaultless result → S.faults source.new ≡ S.faults source.old }
+    ensures quiet_sink { IsFaultless result → K.faults sink.new ≡ K.faults sink.old }
+    ensures unread { asks_for_text (command_of (map string_bytes words.now)) ≡ false
+        → source.new ≡ source.old }
 {
     let (status, printed) = make(rt, alloc, words, source, gate);
     finish(sink, status, &printed)

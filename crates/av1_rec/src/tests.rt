@@ -1,15 +1,18 @@
 ghost use Rattle.std.specs.Prelude.{None};
 
 use super::*;
-use crate::block_line::BlockLine;
-use crate::block_table::blocks_said;
-use crate::header::FrameFormat;
-use crate::picture::source_frame;
-use crate::report::{Results, report};
+use crate::frame::picture::source_frame;
+use crate::program::report::{Results, report};
+use crate::text::block_line::BlockLine;
+use crate::text::block_table::blocks_said;
+use crate::text::header::FrameFormat;
 use av1_block::{Block, BlockSize};
-use av1_frame::{GroupError, OpenGate};
+use av1_frame::{Gate, GroupError, OpenGate};
 use av1_plane::{ChromaSampling, Plane, PlaneRegion, Rect, Three};
 use std::alloc::{AllocError, Global};
+use std::io;
+use std::io::{ErrorKind, Read, Write};
+use std::sync::atomic::{AtomicU64, Ordering};
 use std::test::*;
 use std::thread::Threads;
 
@@ -119,7 +122,6 @@ fn refuses_words(rt: HostRuntime) -> Result<(), Fail> {
         ("group 4294967296", 2, b"refused usage\n".as_slice()),
         ("tiles 1", 2, b"refused usage\n".as_slice()),
         ("group 2", 9, b"refused not built\n".as_slice()),
-        ("tiles", 9, b"refused not built\n".as_slice()),
         ("gen 7 4294967295", 9, b"refused not built\n".as_slice()),
     ] {
         let (status, printed) = ran(&rt, rt.alloc(), words, right_text(rt.alloc())?)?;
@@ -175,8 +177,35 @@ fn refuses_texts(rt: HostRuntime) -> Result<(), Fail> {
         ),
         (FRAME_OF_ONE_COLUMN, b"", b"refused syntax line 6\n"),
         (OTHER_SAMPLING, b"", b"refused not built\n"),
+        (NO_TILING, b"", b"refused no tiling\n"),
     ] {
         let (_, printed) = ran(&rt, alloc, "group 1", joined(alloc, &[front, rest])?)?;
+        assert_eq!(rt; printed.as_slice(), line);
+    }
+    Ok(())
+}
+
+const NO_TILING: &[u8] =
+    b"av1rec 1\nframe 8 8 444 12\ntiling 25 0 0 0\ntype key\nquant 100 100\nswitches 0 1 1 0 0\ndeltas 1 0 0 0 0 0 0 0 0 0 0 1 3 1\ncdef 3 0 0 0 0 0 0 0 0 0 0 0 0 0 0 0 0\n";
+
+const NINE_TILES: &[u8] =
+    b"av1rec 1\nframe 160 144 420 8\ntiling 25 1 2 2\ntype key\nquant 100 100\nswitches 0 0 0 0 0\ndeltas 0 0 0 0 0 0 0 0 0 0 0 0 0 0\ncdef 3 0 0 0 0 0 0 0 0 0 0 0 0 0 0 0 0\n";
+
+const GRID: &[u8] =
+    b"grid 3 3 1 1\ntile 0 0 0 64 64 0 0 16 16\ntile 1 64 0 64 64 16 0 16 16\ntile 2 128 0 64 64 32 0 8 16\ntile 3 0 64 64 64 0 16 16 16\ntile 4 64 64 64 64 16 16 16 16\ntile 5 128 64 64 64 32 16 8 16\ntile 6 0 128 64 64 0 32 16 4\ntile 7 64 128 64 64 16 32 16 4\ntile 8 128 128 64 64 32 32 8 4\nend\n";
+
+#[test]
+fn prints_grids(rt: HostRuntime) -> Result<(), Fail> {
+    let alloc = rt.alloc();
+    for (front, rest, code, line) in [
+        (NINE_TILES, b"".as_slice(), 0, GRID),
+        (NINE_TILES, b"what follows isn't looked at", 0, GRID),
+        (NO_TILING, b"??", 6, b"refused no tiling\n"),
+        (FRAME_OF_ONE_COLUMN, b"??", 5, b"refused syntax line 6\n"),
+        (b"av1rec 1", b"", 5, b"refused syntax line 1\n"),
+    ] {
+        let (status, printed) = ran(&rt, alloc, "tiles", joined(alloc, &[front, rest])?)?;
+        assert_eq!(rt; status.code(), code);
         assert_eq!(rt; printed.as_slice(), line);
     }
     Ok(())
@@ -236,14 +265,141 @@ fn tells_a_failing_write(rt: HostRuntime) -> Result<(), Fail> {
     Ok(())
 }
 
+// A reader of at most 100 bytes a call, whose second call fails in this way.
+#[derive(Drop)]
+struct FailingReader<'a> {
+    text: &'a [u8],
+    calls: u32,
+    kind: ErrorKind,
+}
+
+impl Read for FailingReader<'_> {
+    fn read(&mut self, buf: &mut [u8]) -> io::Result<usize> {
+        self.calls = self.calls.saturating_add(1);
+        if self.calls == 2 {
+            return Err(io::Error::from(self.kind));
+        }
+        let n = self.text.len().min(buf.len()).min(100);
+        let (front, rest) = self.text.split_at(n);
+        buf[..n].copy_from_slice(front);
+        self.text = rest;
+        Ok(n)
+    }
+}
+
 #[test]
-fn runs_over_std_streams(rt: HostRuntime) -> Result<(), Fail> {
+fn reads_std_streams(rt: HostRuntime) -> Result<(), Fail> {
     let alloc = rt.alloc();
     let words = split(alloc, "group 1")?;
-    let mut source = ReadSource::new(b"av1rec 2\n".as_slice());
-    let mut sink = WriteSink::new(Vec::new(alloc));
-    let status = run(&rt, alloc, &words, &mut source, &mut sink, &OpenGate);
-    assert_eq!(rt; status, Status::Syntax { line: 1 });
+    let text = right_text(alloc)?;
+    for (kind, want, line) in [
+        (
+            ErrorKind::TimedOut,
+            Status::ReadFault,
+            b"refused read\n".as_slice(),
+        ),
+        (ErrorKind::Interrupted, Status::Done, REPORT),
+    ] {
+        let mut source = ReadSource::new(FailingReader {
+            text: &text,
+            calls: 0,
+            kind,
+        });
+        let mut sink = PlainSink::new(alloc);
+        let status = run(&rt, alloc, &words, &mut source, &mut sink, &OpenGate);
+        assert_eq!(rt; status, want);
+        assert_eq!(rt; sink.bytes(), line);
+    }
+    Ok(())
+}
+
+// A writer of at most `most` bytes a call. The calls with these numbers, from 1, fail in this way; writes
+// and flushes are counted together.
+#[derive(Drop)]
+struct FailingWriter {
+    bytes: Vec<u8>,
+    most: usize,
+    calls: u32,
+    failing: u32,
+    kind: ErrorKind,
+}
+
+impl FailingWriter {
+    fn fails(&mut self) -> bool {
+        self.calls = self.calls.saturating_add(1);
+        self.calls == self.failing
+    }
+}
+
+impl Write for FailingWriter {
+    fn write(&mut self, buf: &[u8]) -> io::Result<usize> {
+        if self.fails() {
+            return Err(io::Error::from(self.kind));
+        }
+        let n = self.most.min(buf.len());
+        self.bytes.extend_from_slice(&buf[..n])?;
+        Ok(n)
+    }
+
+    fn flush(&mut self) -> io::Result<()> {
+        if self.fails() {
+            return Err(io::Error::from(self.kind));
+        }
+        Ok(())
+    }
+}
+
+#[test]
+fn writes_std_streams(rt: HostRuntime) -> Result<(), Fail> {
+    let alloc = rt.alloc();
+    let words = split(alloc, "group 1")?;
+    for (most, failing, kind, want, count) in [
+        (3, 0, ErrorKind::TimedOut, Status::Done, REPORT.len()),
+        (1000, 1, ErrorKind::Interrupted, Status::Done, REPORT.len()),
+        (10, 4, ErrorKind::Interrupted, Status::Done, REPORT.len()),
+        (10, 3, ErrorKind::TimedOut, Status::WriteFault, 10),
+        (10, 4, ErrorKind::TimedOut, Status::WriteFault, 20),
+        (0, 0, ErrorKind::TimedOut, Status::WriteFault, 0),
+    ] {
+        let mut writer = FailingWriter {
+            bytes: Vec::new(alloc),
+            most,
+            calls: 0,
+            failing,
+            kind,
+        };
+        let text = right_text(alloc)?;
+        let mut source = ReadSource::new(text.as_slice());
+        let mut sink = WriteSink::new(&mut writer);
+        let status = run(&rt, alloc, &words, &mut source, &mut sink, &OpenGate);
+        assert_eq!(rt; status, want);
+        assert_eq!(rt; Some(writer.bytes.as_slice()), REPORT.get(..count));
+    }
+    Ok(())
+}
+
+// Counts the tiles that worker 0 is told to have claimed.
+#[derive(Drop)]
+struct CountingGate(AtomicU64);
+
+impl Gate for CountingGate {
+    fn claimed(&self, worker: usize, _tile: usize) {
+        if worker == 0 {
+            self.0.fetch_add(1, Ordering::SeqCst);
+        }
+    }
+}
+
+#[test]
+fn tells_the_gate(rt: HostRuntime) -> Result<(), Fail> {
+    let alloc = rt.alloc();
+    let words = split(alloc, "group 1")?;
+    let mut source = PlainSource::new(right_text(alloc)?);
+    let mut sink = PlainSink::new(alloc);
+    let gate = CountingGate(AtomicU64::new(0));
+    let status = run(&rt, alloc, &words, &mut source, &mut sink, &gate);
+    assert_eq!(rt; status, Status::Done);
+    assert_eq!(rt; gate.0.load(Ordering::SeqCst), 1);
     Ok(())
 }
 

@@ -1,172 +1,249 @@
-ghost use Rattle.std.specs.Prelude.{◌≡◌, ◌≤◌, ◌^◌, All, pos, map, length, true, IfOk};
-ghost use Rattle.av1_plane.specs.Layout.{rounded};
-ghost use Rattle.av1_rec.specs.Built.{is_small, is_slow, is_built, one_tile};
-ghost use Rattle.av1_rec.specs.Header.{IsHeader};
-ghost use Rattle.av1_rec.specs.Lines.{Gives, said_planes};
-ghost use Rattle.av1_rec.specs.Picture.{HasPicture, IsPictureBelow};
-ghost use Rattle.av1_rec.specs.Tile.{said_tile};
-ghost use Rattle.av1_rec.specs.Text.{header, source, tile_shape, tiles, end, body, text_of, said};
+//! The text of a frame: its header, the rows of its source, and the recorded result of each tile.
+//!
+//! A line is read whole or not at all. Each function takes the front of the bytes, and gives a value
+//! and the rest.
+ghost use Rattle.std.specs.Prelude.{◌≡◌, ◌≤◌, ◌^◌, ◌/◌, ◌*◌, pos, map, length, true, Ok, Err, Some, None, IfOk, IfSome, IsNone};
+ghost use Rattle.av1_plane.specs.Layout.{visible};
+ghost use Rattle.av1_plane.specs.Sampling.{decimation};
+ghost use Rattle.av1_tiling.specs.TileRects.{tile_luma};
+ghost use Rattle.av1_rec.specs.declared.text.fault.Fault.TheVariants.{NoTiling};
+ghost use Rattle.av1_rec.specs.Built.{is_monochrome, is_built};
+ghost use Rattle.av1_rec.specs.Header.{IsHeader, IsSampleDepth};
+ghost use Rattle.av1_rec.specs.Lines.{Gives, said_planes, numbered};
+ghost use Rattle.av1_rec.specs.Read.{IsRead};
+ghost use Rattle.av1_rec.specs.Recorded.{recorded};
+ghost use Rattle.av1_rec.specs.Tile.{digit_limit};
+ghost use Rattle.av1_rec.specs.Tiles.{IsTile, AreTiles, IsTileShape};
+ghost use Rattle.av1_rec.specs.Text.{tiling, tiled_header, is_wide, chroma_picture, source_rows, luma_of, chroma_of, tile_shape, tile_at, tiles, end, body, text_of, said};
 
-use crate::extent::{Extent, TileShape};
-use crate::fault::{Fault, TextError, wrong};
-use crate::fields::tag;
-use crate::header::{FrameFormat, Header, TilingTarget};
-use crate::header_lines::{
-    cdef_line, deltas_line, frame_line, quant_line, switches_line, tiling_line, type_line,
-};
-use crate::rows::planes;
-use crate::tile_text::{TileText, tile};
-use av1_plane::{ChromaSampling, Three};
+pub(crate) mod block_line;
+pub(crate) mod block_table;
+pub(crate) mod extent;
+pub(crate) mod fault;
+pub(crate) mod fields;
+pub(crate) mod header;
+pub(crate) mod header_lines;
+pub(crate) mod hex;
+pub(crate) mod rows;
+pub(crate) mod tile_rects;
+pub(crate) mod tile_text;
+
+use crate::coder::recorded_tile::RecordedTile;
+use crate::text::extent::{Extent, TileShape};
+use crate::text::fault::{Fault, TextError, wrong};
+use crate::text::fields::tag;
+use crate::text::header::{FrameFormat, Header};
+use crate::text::header_lines::header;
+use crate::text::rows::planes;
+use crate::text::tile_rects::{tile_blocks, tile_luma};
+use crate::text::tile_text::tile;
+use av1_plane::{ChromaSampling, Pixel, Three};
+use av1_tiling::TilingInfo;
 use std::alloc::Global;
 
-/// What a text says: the header, the rows of each plane of the source, and the result of each tile.
+/// What a text says: the header, the rows of each plane of the source, and the result of each tile; and
+/// the tiling of its frame.
 #[derive(Drop)]
 pub struct Text<T> {
     pub header: Header,
+    pub tiling: TilingInfo,
     pub source: Three<Vec<Vec<T>>>,
-    pub tiles: Vec<TileText<T>>,
+    pub tiles: Vec<RecordedTile<T>>,
 }
 
-// The eight header lines.
-#[tactic(auto, unfolding(crate::specs::Text::header))]
-fn header(text: &[u8]) -> Result<(Header, &[u8]), TextError>
-    ensures value { Gives (λ x. (x.0, x.1.now)) result (header text.now) }
-    ensures width { IfOk result (λ x. (1 ≤ x.0.format.width) × (x.0.format.width ≤ 65536)) }
-    ensures height { IfOk result (λ x. (1 ≤ x.0.format.height) × (x.0.format.height ≤ 65536)) }
-    ensures shift { IfOk result (λ x. x.0.deblock.block_delta_shift ≤ 3) }
-    ensures damping { IfOk result (λ x. (3 ≤ x.0.cdef.damping) × (x.0.cdef.damping ≤ 6)) }
-    ensures y_strengths { IfOk result (λ x. All (λ s. s ≤ 63) x.0.cdef.y_strengths) }
-    ensures uv_strengths { IfOk result (λ x. All (λ s. s ≤ 63) x.0.cdef.uv_strengths) }
+// The tiling of a header's frame, if there is one.
+#[tactic(auto, unfolding(crate::specs::Text::tiling))]
+fn tiling_of(header: &Header) -> Option<TilingInfo>
+    ensures some { IfSome result (λ t. tiling header.now ≡ Ok t) }
+    ensures none { IsNone result → tiling header.now ≡ Err NoTiling }
 {
-    let rest = tag(text, b"av1rec 1\n").ok_or(wrong(text))?;
-    let (format, rest) = frame_line(rest).ok_or(wrong(rest))?;
-    let (target, rest) = tiling_line(rest).ok_or(wrong(rest))?;
-    let (frame_type, rest) = type_line(rest).ok_or(wrong(rest))?;
-    let (quantizers, rest) = quant_line(rest).ok_or(wrong(rest))?;
-    let (switches, rest) = switches_line(&format, rest).ok_or(wrong(rest))?;
-    let (deblock, rest) = deltas_line(rest).ok_or(wrong(rest))?;
-    let (cdef, rest) = cdef_line(rest).ok_or(wrong(rest))?;
-    let header = Header {
-        format,
-        target,
-        frame_type,
-        quantizers,
-        switches,
-        deblock,
-        cdef,
-    };
-    Ok((header, rest))
+    TilingInfo::from_target_tiles(
+        6,
+        header.format.width as usize,
+        header.format.height as usize,
+        header.target.num,
+        header.target.den,
+        header.target.cols_log2 as usize,
+        header.target.rows_log2 as usize,
+        matches!(header.format.sampling, ChromaSampling::Cs422),
+    )
+    .ok()
 }
 
-// A side rounded up to a multiple of 8.
-fn rounded(side: u32) -> u32
-    requires { (1 ≤ side) × (side ≤ 65536) }
-    ensures value { result ≡ rounded side }
-    ensures some { 8 ≤ result }
-    ensures bound { result ≤ 65536 }
+/// The header, the tiling of its frame, and the bytes behind.
+#[tactic(auto, unfolding(crate::specs::Text::tiled_header))]
+pub fn tiled_header(text: &[u8]) -> Result<(Header, TilingInfo, &[u8]), TextError>
+    ensures value { Gives (λ x. (x.0, x.1, x.2.now)) result (tiled_header text.now) }
+    ensures right { IfOk result (λ x. IsHeader x.0) }
+    ensures tiling { IfOk result (λ x. tiling x.0 ≡ Ok x.1) }
+    ensures tiles { IfOk result (λ x. AreTiles x.1) }
 {
-    (side + 7) / 8 * 8
+    let (header, rest) = header(text)?;
+    match tiling_of(&header) {
+        Some(tiling) => Ok((header, tiling, rest)),
+        None => Err(TextError::Fault(Fault::NoTiling)),
+    }
 }
 
-// One superblock of luma at 8 bits.
-fn is_small(format: &FrameFormat) -> bool
-    ensures { result ≡ is_small format.now }
-{
-    let monochrome = match format.sampling {
-        ChromaSampling::Cs400 => true,
-        ChromaSampling::Cs420 | ChromaSampling::Cs422 | ChromaSampling::Cs444 => false,
-    };
-    monochrome && format.depth == 8 && format.width <= 64 && format.height <= 64
-}
-
-// A rate at which one tile keeps to the limit of samples a second.
-fn is_slow(format: &FrameFormat, target: &TilingTarget) -> bool
-    requires width { (1 ≤ format.now.width) × (format.now.width ≤ 64) }
-    requires height { (1 ≤ format.now.height) × (format.now.height ≤ 64) }
-    ensures { result ≡ is_slow format.now target.now }
-{
-    let samples = u64::from(rounded(format.width)) * u64::from(rounded(format.height));
-    0 < target.den && samples * u64::from(target.num) <= 588251136 * u64::from(target.den)
-}
-
-// Whether the program reads texts with this header.
+// Whether the program runs texts with this header and tiling.
 #[tactic(auto, unfolding(crate::specs::Built::is_built))]
-fn is_built(header: &Header) -> bool
-    requires width { 1 ≤ header.now.format.width }
-    requires height { 1 ≤ header.now.format.height }
-    ensures { result ≡ is_built header.now }
+fn is_built(header: &Header, tiling: &TilingInfo) -> bool
+    requires { tiling.now.cols * tiling.now.rows ≤ 4096 }
+    ensures { result ≡ is_built header.now tiling.now }
 {
-    is_small(&header.format)
-        && is_slow(&header.format, &header.target)
-        && header.switches.fast_deblock
+    header.format.sampling == ChromaSampling::Cs400
+        && header.format.depth == 8
         && !header.switches.enable_cdef
         && !header.switches.enable_restoration
-        && !header.deblock.deltas_enabled
-        && !header.deblock.block_deltas_enabled
+        && tiling.cols * tiling.rows == 1
 }
 
+// No samples in a plane.
 const NO_SAMPLES: Extent = Extent {
     width: 0,
     height: 0,
 };
 
+// A side in a plane whose sides are halved `dec` times, 0 or 1.
+fn visible(side: u32, dec: usize) -> u32
+    requires side { side ≤ 65536 }
+    requires dec { dec ≤ 1 }
+    ensures { result ≡ visible side dec }
+{
+    if dec == 0 { side } else { (side + 1) / 2 }
+}
+
+// The picture's samples in each chroma plane.
+fn chroma_picture(format: &FrameFormat) -> Extent
+    requires width { format.now.width ≤ 65536 }
+    requires height { format.now.height ≤ 65536 }
+    ensures { result ≡ chroma_picture format.now (decimation format.now.sampling) }
+{
+    let Some((xdec, ydec)) = format.sampling.get_decimation() else {
+        return NO_SAMPLES;
+    };
+    Extent {
+        width: visible(format.width, xdec),
+        height: visible(format.height, ydec),
+    }
+}
+
+// What samples of a depth are below.
+fn sample_limit(depth: u32) -> u32
+    requires { IsSampleDepth depth }
+    ensures { result ≡ 2 ^ depth }
+{
+    match depth {
+        8 => 256,
+        10 => 1024,
+        _ => 4096,
+    }
+}
+
 // The rows of the source.
-#[tactic(auto, unfolding(crate::specs::Text::source))]
-fn source<'a>(
+#[tactic(auto, unfolding(crate::specs::Text::source_rows))]
+fn source<'a, T: Pixel + Drop>(
     alloc: Global,
     format: &FrameFormat,
     text: &'a [u8],
-) -> Result<(Three<Vec<Vec<u8>>>, &'a [u8]), TextError>
-    requires { is_small format.now ≡ true }
-    ensures { Gives (λ x. (said_planes pos x.0, x.1.now)) result (source format.now text.now) }
+) -> Result<(Three<Vec<Vec<T>>>, &'a [u8]), TextError>
+    requires width { format.now.width ≤ 65536 }
+    requires height { format.now.height ≤ 65536 }
+    requires depth { IsSampleDepth format.now.depth }
+    requires limit { 2 ^ format.now.depth ≤ T.limit }
+    ensures { Gives (λ x. (said_planes T.number x.0, x.1.now)) result
+        (source_rows format.now text.now) }
 {
     let rest = tag(text, b"source\n").ok_or(wrong(text))?;
     let luma = Extent {
         width: format.width,
         height: format.height,
     };
-    planes(alloc, false, 256, &luma, &NO_SAMPLES, rest)
+    let chroma = chroma_picture(format);
+    let limit = sample_limit(format.depth);
+    planes(alloc, format.depth > 8, limit, &luma, &chroma, rest)
 }
 
-// The shape of the one tile.
-#[tactic(auto, using(crate::proofs::OneTile::one_shape))]
-fn one_shape(format: &FrameFormat) -> TileShape
-    requires small { is_small format.now ≡ true }
-    requires width { (1 ≤ format.now.width) × (format.now.width ≤ 65536) }
-    requires height { (1 ≤ format.now.height) × (format.now.height ≤ 65536) }
-    ensures value { result ≡ tile_shape format.now (one_tile format.now) 0 }
-    ensures blocks { (1 ≤ result.blocks.width) × (1 ≤ result.blocks.height) }
+// The samples of tile `n` in each chroma plane, by those of luma.
+fn chroma_of(sampling: ChromaSampling, luma: Extent) -> Extent
+    ensures none { decimation sampling ≡ None → result ≡ record { width = 0; height = 0 } }
+    ensures some { IfSome (decimation sampling)
+        (λ d. result ≡ record { width = luma.width / 2 ^ d.0; height = luma.height / 2 ^ d.1 }) }
 {
-    let width = rounded(format.width);
-    let height = rounded(format.height);
+    match sampling {
+        ChromaSampling::Cs400 => NO_SAMPLES,
+        ChromaSampling::Cs420 => Extent {
+            width: luma.width / 2,
+            height: luma.height / 2,
+        },
+        ChromaSampling::Cs422 => Extent {
+            width: luma.width / 2,
+            height: luma.height,
+        },
+        ChromaSampling::Cs444 => luma,
+    }
+}
+
+// The shape of tile `n`.
+fn tile_shape(format: &FrameFormat, tiling: &TilingInfo, n: usize) -> TileShape
+    requires { IsTile tiling.now n }
+    ensures value { result ≡ tile_shape format.now tiling.now n }
+    ensures blocks { IsTileShape result }
+{
+    let luma = tile_luma(tiling, n);
+    let blocks = tile_blocks(tiling, n);
+    let luma = Extent {
+        width: luma.width as u32,
+        height: luma.height as u32,
+    };
     TileShape {
-        luma: Extent { width, height },
-        chroma: NO_SAMPLES,
+        luma,
+        chroma: chroma_of(format.sampling, luma),
         blocks: Extent {
-            width: width / 4,
-            height: height / 4,
+            width: blocks.width as u32,
+            height: blocks.height as u32,
         },
     }
 }
 
-// The result of the one tile.
-#[tactic(auto, using(crate::proofs::OneTile::one_result))]
-fn tiles<'a>(
+// The result of tile `n`.
+fn tile_at<'a, T: Pixel + Drop>(
     alloc: Global,
     header: &Header,
+    tiling: &TilingInfo,
+    n: usize,
     text: &'a [u8],
-) -> Result<(Vec<TileText<u8>>, &'a [u8]), TextError>
-    requires small { is_small header.now.format ≡ true }
-    requires width { (1 ≤ header.now.format.width) × (header.now.format.width ≤ 65536) }
-    requires height { (1 ≤ header.now.format.height) × (header.now.format.height ≤ 65536) }
-    ensures value { Gives (λ x. (map (said_tile pos) x.0.items, x.1.now)) result
-        (tiles header.now (one_tile header.now.format) text.now) }
-    ensures one { IfOk result (λ x. length x.0.items ≡ 1) }
+) -> Result<(RecordedTile<T>, &'a [u8]), TextError>
+    requires tile { IsTile tiling.now n }
+    requires few { n ≤ 4096 }
+    requires limit { digit_limit (is_wide header.now.format) ≤ T.limit }
+    ensures { Gives (λ x. (recorded T.number x.0, x.1.now)) result
+        (tile_at header.now tiling.now n text.now) }
 {
-    let shape = one_shape(&header.format);
-    let (one, rest) = tile(alloc, false, &shape, 0, text)?;
+    let shape = tile_shape(&header.format, tiling, n);
+    tile(alloc, header.format.depth > 8, &shape, n as u32, text)
+}
+
+// The results of all tiles, in order.
+#[tactic(auto, unfolding(crate::specs::Text::tiles), using(crate::proofs::Numbered::numbered_start))]
+fn tiles<'a, T: Pixel + Drop>(
+    alloc: Global,
+    header: &Header,
+    tiling: &TilingInfo,
+    text: &'a [u8],
+) -> Result<(Vec<RecordedTile<T>>, &'a [u8]), TextError>
+    requires tiles { AreTiles tiling.now }
+    requires limit { digit_limit (is_wide header.now.format) ≤ T.limit }
+    ensures { Gives (λ x. (map (recorded T.number) x.0.items, x.1.now)) result
+        (tiles header.now tiling.now text.now) }
+{
     let mut tiles = Vec::new(alloc);
-    tiles.push(one)?;
+    let mut rest = text;
+    for n in 0..tiling.tile_count() {
+        let (one, after) = tile_at(alloc, header, tiling, n, rest)?;
+        tiles.push(one)?;
+        rest = after;
+    }
     Ok((tiles, rest))
 }
 
@@ -185,36 +262,39 @@ fn end(text: &[u8]) -> Result<(), TextError>
 
 // What follows the header.
 #[tactic(auto, unfolding(crate::specs::Text::body))]
-fn body(alloc: Global, header: Header, text: &[u8]) -> Result<Text<u8>, TextError>
-    requires small { is_small header.format ≡ true }
-    requires width { (1 ≤ header.format.width) × (header.format.width ≤ 65536) }
-    requires height { (1 ≤ header.format.height) × (header.format.height ≤ 65536) }
-    ensures value { Gives (said pos) result (body header (one_tile header.format) text.now) }
-    ensures one { IfOk result (λ t. length t.tiles.items ≡ 1) }
+fn body<T: Pixel + Drop>(
+    alloc: Global,
+    header: Header,
+    tiling: TilingInfo,
+    text: &[u8],
+) -> Result<Text<T>, TextError>
+    requires header { IsHeader header }
+    requires tiles { AreTiles tiling }
+    requires samples { 2 ^ header.format.depth ≤ T.limit }
+    requires digits { digit_limit (is_wide header.format) ≤ T.limit }
+    ensures { Gives (said T.number) result (body header tiling text.now) }
 {
     let (source, rest) = source(alloc, &header.format, text)?;
-    let (tiles, rest) = tiles(alloc, &header, rest)?;
+    let (tiles, rest) = tiles(alloc, &header, &tiling, rest)?;
     end(rest)?;
     Ok(Text {
         header,
+        tiling,
         source,
         tiles,
     })
 }
 
 /// What the text says, or what is wrong with it.
-#[tactic(auto, unfolding(crate::specs::Text::text_of), using(crate::proofs::OneTile::one_steps))]
+#[tactic(auto, unfolding(crate::specs::Text::text_of))]
 pub fn text_of(alloc: Global, text: &[u8]) -> Result<Text<u8>, TextError>
     ensures value { Gives (said pos) result (text_of text.now) }
-    ensures header { IfOk result (λ t. IsHeader t.header) }
-    ensures built { IfOk result (λ t. is_built t.header ≡ true) }
-    ensures one { IfOk result (λ t. length t.tiles.items ≡ 1) }
-    ensures sides { IfOk result (λ t. HasPicture t.header.format (said_planes pos t.source)) }
-    ensures depth { IfOk result (λ t. IsPictureBelow (2 ^ t.header.format.depth) (said_planes pos t.source)) }
+    ensures read { IfOk result (λ t. IsRead (said pos t)) }
+    ensures built { IfOk result (λ t. is_built t.header t.tiling ≡ true) }
 {
-    let (header, rest) = header(text)?;
-    if is_built(&header) {
-        body(alloc, header, rest)
+    let (header, tiling, rest) = tiled_header(text)?;
+    if is_built(&header, &tiling) {
+        body(alloc, header, tiling, rest)
     } else {
         Err(TextError::Fault(Fault::NotBuilt))
     }

@@ -1,34 +1,20 @@
-use Rattle.std.proofs.Common.{◌≡◌, true, sym}
-use Rattle.av1_rec.specs.Built.{is_built, one_tile}
-use Rattle.av1_rec.specs.Header.{IsHeader}
-use Rattle.av1_rec.proofs.PictureRows.{body_keeps, body_sides, body_depth}
+use Rattle.std.proofs.Common.{pos, sym}
+use Rattle.av1_rec.proofs.BuiltDepth.{few_samples, few_digits}
+use Rattle.av1_rec.proofs.PictureRows.{body_read, body_built}
 use Rattle.av1_rec.proofs.text.text_of.Goals as goal
 
-pub returns-then-is_built-clause-header : goal.returns-then-is_built-clause-header
-returns-then-is_built-clause-header c =
-    let h = c.in_ok-header.header in
-    let right = c.in_ok-header.ensures in
-    let made : IsHeader h = record {
-      width = right.width;
-      height = right.height;
-      shift = right.shift;
-      damping = right.damping;
-      y_strengths = right.y_strengths;
-      uv_strengths = right.uv_strengths;
-    } in
-    body_keeps IsHeader h (one_tile h.format) c.in_ok-header.rest.now c.body.result c.body.ensures.value made
+pub body-requires-clause-samples : goal.body-requires-clause-samples
+body-requires-clause-samples c = few_samples c.in_ok-header.header c.in_ok-header.tiling (sym c.if-is_built.ensures)
+
+pub body-requires-clause-digits : goal.body-requires-clause-digits
+body-requires-clause-digits c = few_digits c.in_ok-header.header c.in_ok-header.tiling (sym c.if-is_built.ensures)
+
+pub returns-then-is_built-clause-read : goal.returns-then-is_built-clause-read
+returns-then-is_built-clause-read c =
+    let front = c.in_ok-header in
+    body_read pos front.header front.tiling front.rest.now c.body.result front.ensures.right front.ensures.tiling c.body.ensures
 
 pub returns-then-is_built-clause-built : goal.returns-then-is_built-clause-built
 returns-then-is_built-clause-built c =
-    let h = c.in_ok-header.header in
-    body_keeps (λ header. is_built header ≡ true) h (one_tile h.format) c.in_ok-header.rest.now c.body.result c.body.ensures.value (sym c.if-is_built.ensures)
-
-pub returns-then-is_built-clause-sides : goal.returns-then-is_built-clause-sides
-returns-then-is_built-clause-sides c =
-    let h = c.in_ok-header.header in
-    body_sides h (one_tile h.format) c.in_ok-header.rest.now c.body.result c.body.ensures.value
-
-pub returns-then-is_built-clause-depth : goal.returns-then-is_built-clause-depth
-returns-then-is_built-clause-depth c =
-    let h = c.in_ok-header.header in
-    body_depth h (one_tile h.format) c.in_ok-header.rest.now c.body.result c.body.ensures.value
+    let front = c.in_ok-header in
+    body_built pos front.header front.tiling front.rest.now c.body.result (sym c.if-is_built.ensures) c.body.ensures

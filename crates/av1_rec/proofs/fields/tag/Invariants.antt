@@ -1,6 +1,0 @@
-use Rattle.std.proofs.Common.{◌≡◌, drop}
-use Rattle.av1_rec.specs.Fields.{tag}
-use Rattle.av1_rec.proofs.fields.tag.Given as goal
-
-abbrev pub invariant-loop-c : goal.invariant-loop-c
-invariant-loop-c l = tag (drop l.c-index l.word) l.rest ≡ tag l.word l.text

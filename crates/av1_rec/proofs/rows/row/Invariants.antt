@@ -1,7 +1,0 @@
-use Rattle.std.proofs.Common.{◌≡◌, ◌-◌, map}
-use Rattle.av1_rec.specs.Lines.{row}
-use Rattle.av1_rec.proofs.Samples.{behind}
-use Rattle.av1_rec.proofs.rows.row.Given as goal
-
-abbrev pub invariant-loop : goal.invariant-loop
-invariant-loop g l = behind (map g.T.Pixel.number l.samples.items) (row l.wide l.limit (l.width - l.counter) l.rest) ≡ row l.wide l.limit l.width l.text

@@ -1,7 +1,0 @@
-use Rattle.std.proofs.Common.{◌≡◌, ◌-◌, map}
-use Rattle.av1_rec.specs.Lines.{line, row, many}
-use Rattle.av1_rec.proofs.Many.{with_front}
-use Rattle.av1_rec.proofs.rows.rows.Given as goal
-
-abbrev pub invariant-loop : goal.invariant-loop
-invariant-loop g l = with_front (map (λ v. map g.T.Pixel.number v.items) l.rows.items) (many (line (row l.wide l.limit l.width)) (l.height - l.counter) l.rest) ≡ many (line (row l.wide l.limit l.width)) l.height l.text

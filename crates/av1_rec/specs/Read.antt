@@ -1,0 +1,12 @@
+-- What is known of a text that was read to its end.
+use Rattle.std.specs.Prelude.{◌≡◌, ◌^◌, Ok}
+use Rattle.av1_rec.specs.Header.{IsHeader}
+use Rattle.av1_rec.specs.Picture.{HasPictureRows, IsPictureBelow}
+use Rattle.av1_rec.specs.Text.{Said, tiling}
+
+-- its numbers are within their bounds, its frame has the tiling, and the source has the picture's sides and depth
+pub record IsRead (s : Said) : Type 0 where
+  pub header : IsHeader s.header
+  pub tiling : tiling s.header ≡ Ok s.tiling
+  pub sides : HasPictureRows s.header.format s.source
+  pub depth : IsPictureBelow (2 ^ s.header.format.depth) s.source

@@ -1,0 +1,33 @@
+ghost use Rattle.std.specs.Prelude.{◌≡◌, ◌<◌, ◌≤◌, ℕ, List, Option, length, take, IfOk, OnOk, OnErr, IsErrOf};
+ghost use Rattle.std.specs.Io.KnownBytes.{Appends, Keeps};
+ghost use Rattle.av1_rec.specs.Told.{Rose};
+
+/// Why a write failed.
+#[derive(Clone, Copy, Debug, PartialEq, Eq)]
+pub enum SinkError {
+    Failed,
+    /// A sink in memory couldn't grow.
+    OutOfMemory,
+}
+
+/// Where bytes go.
+pub trait Sink {
+    /// The bytes written, where the sink tells them.
+    ghost written: { Self → Option (List ℕ) };
+
+    /// How often a write failed. The count never falls, and a write that works leaves it; at 2^64 - 1 it
+    /// stands still.
+    ghost faults: { Self → ℕ };
+
+    /// Takes bytes from the front of `buf` and gives their number, at least 1 unless `buf` is empty.
+    fn write(&mut self, buf: &[u8]) -> Result<usize, SinkError>
+        ensures fits { IfOk result (λ n. n ≤ length buf.now) }
+        ensures some { IfOk result (λ n. 0 < length buf.now → 0 < n) }
+        ensures written { IfOk result
+            (λ n. Appends (written self.old) (written self.new) (take n buf.now)) }
+        ensures same { OnErr result (Keeps (written self.old) (written self.new)) }
+        ensures quiet { OnOk result (faults self.new ≡ faults self.old) }
+        ensures kept { faults self.old ≤ faults self.new }
+        ensures failed { IsErrOf result SinkError.Failed
+            → Rose (faults self.old) (faults self.new) };
+}

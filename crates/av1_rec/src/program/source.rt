@@ -1,0 +1,28 @@
+ghost use Rattle.std.specs.Prelude.{◌≡◌, ◌<◌, ◌≤◌, ℕ, List, Option, length, take, IfOk, OnOk, OnErr};
+ghost use Rattle.std.specs.Io.KnownBytes.{Consumes, IsAtEnd};
+ghost use Rattle.av1_rec.specs.Told.{Rose};
+
+/// A read failed.
+#[derive(Clone, Copy, Debug, PartialEq, Eq)]
+pub struct Failed;
+
+/// Where bytes come from.
+pub trait Source {
+    /// The bytes left, where the source tells them.
+    ghost left: { Self → Option (List ℕ) };
+
+    /// How often a read failed. The count never falls, and a read that works leaves it; at 2^64 - 1 it
+    /// stands still.
+    ghost faults: { Self → ℕ };
+
+    /// Puts bytes at the front of `buf` and gives their number. For a buffer that isn't empty, 0 is the
+    /// end.
+    fn read(&mut self, buf: &mut [u8]) -> Result<usize, Failed>
+        ensures fits { IfOk result (λ n. n ≤ length buf.old) }
+        ensures taken { IfOk result
+            (λ n. Consumes (left self.old) (left self.new) (take n buf.new)) }
+        ensures end { IfOk result (λ n. 0 < length buf.old → n ≡ 0 → IsAtEnd (left self.new)) }
+        ensures quiet { OnOk result (faults self.new ≡ faults self.old) }
+        ensures kept { faults self.old ≤ faults self.new }
+        ensures failed { OnErr result (Rose (faults self.old) (faults self.new)) };
+}
