@@ -11,3 +11,4 @@ pub mod Motion
 pub mod Each
 pub mod Whole
 pub mod RestorationUnit
+pub mod CodedBlockInfo

@@ -1,5 +1,7 @@
 ghost use Rattle.std.specs.Prelude.{◌≡◌, ◌*◌, ◌^◌, ◌≤◌, ◌<◌, vec_len};
 
+use av1_plane::OutOfMemory;
+use std::alloc::Global;
 use std::marker::Model;
 
 /// A table of a frame: one entry for each unit of 4 by 4 luma samples, row by row.
@@ -23,7 +25,7 @@ impl<E> Model for Table<E> {
 
 #[tactic(auto, using(crate::proofs::Places::places))]
 impl<E: Copy> Table<E> {
-    ghost use Rattle.std.specs.Prelude.{◌+◌, length, take, drop, slice_index_or};
+    ghost use Rattle.std.specs.Prelude.{◌+◌, length, take, drop, slice_index_or, IfOk};
     ghost use Rattle.std.specs.Borrow.{sem, Lends, Array};
     ghost use Rattle.av1_block.specs.Rows.{with_entries, with_entry_run, with_entry};
     ghost use Rattle.av1_block.specs.contracts.table.Table.{the_row};
@@ -38,6 +40,14 @@ impl<E: Copy> Table<E> {
             cols,
             rows,
         }
+    }
+
+    /// A table of the same sides with the same entries.
+    pub fn try_clone(&self, alloc: Global) -> Result<Table<E>, OutOfMemory>
+        ensures { IfOk result (λ copy. copy ≡ self.now) }
+    {
+        let entries = Vec::from_slice(alloc, &self.entries)?;
+        Ok(Table::from_entries(entries, self.cols, self.rows))
     }
 
     /// The whole table, row by row.
@@ -96,6 +106,7 @@ impl<E: Copy> Table<E> {
         ensures* writes_back { sem 𝓛 (Lends (the_row E.row) (Array E.row 0) self.entry result
             (with_entry_run self.old (y * self.old.cols + x))) }
         ensures run { result.now ≡ take width (drop (y * self.old.cols + x) self.old.entries) }
+        ensures long { length result.now ≡ width }
     {
         let from = y * self.cols + x;
         let to = from + width;

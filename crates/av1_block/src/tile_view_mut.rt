@@ -15,7 +15,7 @@ pub struct TileViewMut<'a, E> {
 }
 
 impl<'a, E: Copy> TileViewMut<'a, E> {
-    ghost use Rattle.std.specs.Prelude.{◌≡◌, ◌-◌, ◌≤◌, min, [], take, drop};
+    ghost use Rattle.std.specs.Prelude.{◌≡◌, ◌-◌, ◌≤◌, min, [], length, take, drop};
     ghost use Rattle.std.specs.Borrow.{sem, follows, Lends, Array};
     ghost use mir.Syntax.{named};
     ghost use Rattle.av1_block.specs.Windows.{frame_window, cut_window, window_part};
@@ -193,6 +193,7 @@ impl<'a, E: Copy> TileViewMut<'a, E> {
             self.entry result (with_run_at self.old (place_under self.old 0 y))) }
         ensures row { result.now ≡ take (window self.old).cols
             (drop (place_under self.old 0 y) (entries_under self.old)) }
+        ensures long { length result.now ≡ (window self.old).cols }
     {
         let left = self.window.left;
         let y = self.window.top + y;

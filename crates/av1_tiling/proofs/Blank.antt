@@ -14,6 +14,10 @@ use Rattle.av1_plane.specs.declared.frame.Frame.{Frame}
 use Rattle.av1_plane.specs.declared.sampling.ChromaSampling.{ChromaSampling}
 use Rattle.av1_plane.specs.declared.three.Three.{Three}
 use Rattle.av1_plane.specs.Planes.{IsZeroed, IsBlank}
+use Rattle.av1_block.specs.RestorationUnit.{no_unit}
+use Rattle.av1_tiling.specs.declared.restoration_plane.RestorationPlaneConfig.{RestorationPlaneConfig}
+use Rattle.av1_tiling.specs.Restoration.{HasLayout, blank_units}
+use Rattle.av1_tiling.specs.UnitSizes.{unit_layouts}
 use Rattle.av1_tiling.specs.Views.{PlaneView, IsFullTable, view_plane, view_frame}
 use Rattle.av1_tiling.specs.Frames.{Parameters, IsInRange, IsInputFor, IsStateFor, blank_frame, start}
 
@@ -25,6 +29,10 @@ blank_view number w h sampling f b = λ i. record {
   v = record { cfg = b.v.cfg i; samples = b.v.samples i };
 }
 
+-- blank units have their layout
+pub blank_made : (cfg : RestorationPlaneConfig) → HasLayout cfg (blank_units cfg)
+blank_made cfg = record { layout = refl; cols = refl; rows = refl; entries = length-replicate (cfg.cols * cfg.rows) no_unit }
+
 -- the first state of a frame is made for it
 pub start_made : (p : Parameters) (input : Three PlaneView) (hres qres : PlaneView) → IsInputFor p input → IsStateFor p (start p input hres qres)
 start_made p input hres qres made = record {
@@ -33,6 +41,7 @@ start_made p input hres qres made = record {
   y_range = made.y_range;
   u_range = made.u_range;
   v_range = made.v_range;
+  restoration = record { y = blank_made (unit_layouts p).y; u = blank_made (unit_layouts p).u; v = blank_made (unit_layouts p).v };
   motion = record { count = refl; sides = All-replicate (λ t. (t.cols ≡ p.w_in_b) × (t.rows ≡ p.h_in_b)) 8 (blank_motion p.w_in_b p.h_in_b) (refl, refl); full = All-replicate IsFullTable 8 (blank_motion p.w_in_b p.h_in_b) (length-replicate (p.w_in_b * p.h_in_b) no_stats) };
   shift = omega arith;
 }

@@ -147,6 +147,9 @@ module _ (t : TilingInfo) (state : State) (cols rows : ℕ) (made : IsTilingOf t
           layout = made.layout;
           motion = subst (λ c. AreMotionTables c (rounded made.height / 4) state.frame_me_stats) (made.wide ∙ ap (λ (n : ℕ). n / 4) taken.wide)
               (subst (λ r. AreMotionTables cols r state.frame_me_stats) (made.high ∙ ap (λ (n : ℕ). n / 4) taken.high) made.motion);
+          y_units = made.y_units.units;
+          u_units = made.u_units.units;
+          v_units = made.v_units.units;
           width_limit = few;
           height_limit = low;
           wide = omega arith;

@@ -41,6 +41,9 @@ tile_high-pos t h = subst (λ (x : ℕ). 0 < x) (sym h.tile_high) (div_ceil-pos 
 pub cols-pos : (t : TilingInfo) → IsTiling t → 0 < t.cols
 cols-pos t h = subst (λ (x : ℕ). 0 < x) (sym h.cols) (div_ceil-pos (superblock_columns t) t.tile_width_sb (div_ceil-pos t.frame_width (superblock_side t) h.wide.0 (pow_pos t.sb_size_log2)) h.tile_wide)
 
+pub rows-pos : (t : TilingInfo) → IsTiling t → 0 < t.rows
+rows-pos t h = subst (λ (x : ℕ). 0 < x) (sym h.rows) (div_ceil-pos (superblock_rows t) t.tile_height_sb (div_ceil-pos t.frame_height (superblock_side t) h.high.0 (pow_pos t.sb_size_log2)) (tile_high-pos t h))
+
 pub cuts_planes : (t : TilingInfo) → IsTiling t → CutsPlanes t
 cuts_planes t h xdec ydec lx ly =
     let side = superblock_side t in

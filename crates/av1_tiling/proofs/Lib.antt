@@ -15,6 +15,9 @@ pub mod Placed
 pub mod Quotients
 pub mod TileCuts
 pub mod LawProofs
+pub mod UnitPlaces
+pub mod UnitAlign
+pub mod UnitTiles
 pub mod TilePlaces
 pub mod ViewPlaces
 pub mod MadeFor

@@ -3,6 +3,7 @@ use Rattle.std.proofs.Common.{◌≡◌, ℕ, ◌/◌, Bool, true, false, Some, 
 use Rattle.av1_tiling.specs.Frames.{Parameters, State, AreMotionTables, IsFrame, IsStateFor, IsTilingOf, is_422}
 use Rattle.av1_tiling.specs.Grid.{grid, superblock_log2}
 use Rattle.av1_tiling.proofs.Inside.{grid_takes}
+use Rattle.av1_tiling.proofs.UnitTiles.{frame_units}
 
 pub tiling_of : (limit : ℕ) (p : Parameters) (s : State) (cols rows : ℕ) → IsFrame limit p → IsStateFor p s → cols ≡ p.w_in_b → rows ≡ p.h_in_b → IsTilingOf p.sequence.tiling s cols rows
 tiling_of limit p s cols rows frame state wide high =
@@ -11,6 +12,7 @@ tiling_of limit p s cols rows frame state wide high =
     let of_64 : grid 6 p.width p.height t.0 t.1 t.2 t.3 (is_422 p.sequence.chroma_sampling) ≡ Some p.sequence.tiling =
     subst (λ k. grid k p.width p.height t.0 t.1 t.2 t.3 (is_422 p.sequence.chroma_sampling) ≡ Some p.sequence.tiling) chosen t.4 in
     let taken = grid_takes p.width p.height t.0 t.1 t.2 t.3 (is_422 p.sequence.chroma_sampling) p.sequence.tiling of_64 in
+    let units = frame_units limit p s.restoration frame state.restoration in
     record {
       width = p.width;
       height = p.height;
@@ -23,6 +25,9 @@ tiling_of limit p s cols rows frame state wide high =
       built = taken.six;
       layout = state.rec;
       motion = subst (λ c. AreMotionTables c rows s.frame_me_stats) (sym wide) (subst (λ r. AreMotionTables p.w_in_b r s.frame_me_stats) (sym high) state.motion);
+      y_units = units.y;
+      u_units = units.u;
+      v_units = units.v;
       wide = wide ∙ (frame.columns ∙ ap (λ (n : ℕ). n / 4) (sym taken.wide));
       high = high ∙ (frame.rows ∙ ap (λ (n : ℕ). n / 4) (sym taken.high));
     }

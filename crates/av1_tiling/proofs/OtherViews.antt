@@ -13,12 +13,16 @@ use Rattle.av1_tiling.specs.declared.tiling_info.TilingInfo.{TilingInfo}
 use Rattle.av1_tiling.specs.Coded.{IsTablePart}
 use Rattle.av1_block.specs.declared.me_stats.MEStats.{MEStats}
 use Rattle.av1_block.specs.Rows.{Rows}
-use Rattle.av1_tiling.specs.Frames.{State, IsTilingOf, PartFits, stored_rect, plane_part, part_at, motion_parts, view_of}
+use Rattle.av1_tiling.specs.Frames.{State, IsTilingOf, PartFits, stored_rect, plane_part, part_at, motion_parts, view_of, unit_part, AreTileUnits}
 use Rattle.av1_tiling.specs.Laws.{OthersStay}
 use Rattle.av1_tiling.specs.Puts.{put, put_motion}
-use Rattle.av1_tiling.specs.TileRects.{tile_samples, tile_blocks, tile_motion, block_columns}
+use Rattle.std.specs.Prelude.{◌^◌}
+use Rattle.std.specs.Int.{div_ceil}
+use Rattle.av1_block.specs.declared.restoration_unit.RestorationUnit.{RestorationUnit}
+use Rattle.av1_tiling.specs.Restoration.{Units}
+use Rattle.av1_tiling.specs.TileRects.{tile_superblock, tile_luma, tile_samples, tile_blocks, tile_motion, block_columns}
 use Rattle.av1_tiling.specs.Views.{Part, PlaneView, View, SameRect, SameShape, IsFull}
-use Rattle.av1_tiling.proofs.ViewPlaces.{tile_fits_y, tile_fits_u, tile_fits_v, plane_of, table_of, motion_of, planes_apart, blocks_apart, motions_apart}
+use Rattle.av1_tiling.proofs.ViewPlaces.{tile_fits_y, tile_fits_u, tile_fits_v, plane_of, table_of, motion_of, units_of, planes_apart, blocks_apart, motions_apart, units_apart}
 
 -- a cut stays where another rectangle was written
 cut_stays : {E : Type 0} (table entries : List E) (cols : ℕ) (one other : TileRect) → LiesInTable (length table) cols one → LiesInTable (length table) cols other → AreApart one other
@@ -58,6 +62,10 @@ motion_stays one other apart (m ∷ tables) (part ∷ parts) of of' same =
     let rest = motion_stays one other apart tables parts (All-tail (P one) m tables of) (All-tail (P other) m tables of') same.1 in
     λ i. first i ∷ rest i
 
+-- tile n's part of a plane's units
+abbrev tile_unit_part : TilingInfo → Units → ℕ → Part RestorationUnit
+tile_unit_part t u n = unit_part u (tile_superblock t n) (div_ceil (tile_luma t n).width (2 ^ t.sb_size_log2), div_ceil (tile_luma t n).height (2 ^ t.sb_size_log2))
+
 -- what no two of a list have in common, no two have in either order
 in_either_order : (count : ℕ) (rect : ℕ → TileRect) → ((m n : ℕ) → m < n → n < count → AreApart (rect m) (rect n)) → (m n : ℕ) → m < count → n < count → m ≢ n → AreApart (rect m) (rect n)
 in_either_order count rect apart m n l k other = elim (cases_order m n) [
@@ -81,9 +89,16 @@ others_stay t s blocks cols rows m n written made full long l k other shape =
     (subst (λ c. IsTablePart (length blocks) c (part_at blocks (block_columns t) (tile_blocks t m))) wide (table_of t s blocks cols rows made m l blocks long))
     (subst (λ c. IsTablePart (length blocks) c (part_at blocks (block_columns t) (tile_blocks t n))) wide (table_of t s blocks cols rows made n k blocks long))
     (in_either_order count (tile_blocks t) (blocks_apart t s blocks cols rows made) m n l k other) shape.blocks in
+    let unit_stays = λ (u : Units) (made_units : AreTileUnits t u) (part : Part RestorationUnit) (same : SameRect (tile_unit_part t u m) part).
+    part_stays u.entries u.cols (tile_unit_part t u m).rect (tile_unit_part t u n).rect part
+    (units_of t s blocks cols rows made m l u made_units) (units_of t s blocks cols rows made n k u made_units)
+    (in_either_order count (λ i. (tile_unit_part t u i).rect) (units_apart t s blocks cols rows made u made_units) m n l k other) same in
+    let y_units = unit_stays s.restoration.y made.y_units written.ts.units.y shape.y_units in
+    let u_units = unit_stays s.restoration.u made.u_units written.ts.units.u shape.u_units in
+    let v_units = unit_stays s.restoration.v made.v_units written.ts.units.v shape.v_units in
     let motion = motion_stays (tile_motion t m) (tile_motion t n)
     (in_either_order count (tile_motion t) (motions_apart t s blocks cols rows made) m n l k other) s.frame_me_stats written.ts.me_stats
     (λ i d below. motion_of t s blocks cols rows made m l (get_or s.frame_me_stats i d) (made.motion.full i d below) (made.motion.sides i d below))
     (λ i d below. motion_of t s blocks cols rows made n k (get_or s.frame_me_stats i d) (made.motion.full i d below) (made.motion.sides i d below)) shape.motion in
     let before = view_of t s blocks n in
-    λ i. record before { ts = record before.ts { rec = record { y = y i; u = u i; v = v i }; me_stats = motion i }; blocks = b i }
+    λ i. record before { ts = record before.ts { rec = record { y = y i; u = u i; v = v i }; units = record { y = y_units i; u = u_units i; v = v_units i }; me_stats = motion i }; blocks = b i }

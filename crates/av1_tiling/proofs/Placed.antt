@@ -16,10 +16,12 @@ use Rattle.std.specs.List.{AllZip}
 use Rattle.std.proofs.lemmas.Slice.Zip.{AllZip-long}
 use Rattle.av1_block.specs.declared.me_stats.MEStats.{MEStats}
 use Rattle.av1_block.specs.Rows.{Rows}
+use Rattle.av1_block.specs.declared.restoration_unit.RestorationUnit.{RestorationUnit}
+use Rattle.av1_tiling.specs.Restoration.{Units}
 use Rattle.av1_tiling.specs.Views.{View, Part, PlaneView}
 use Rattle.av1_tiling.specs.Laws.{PutsInAnyOrder}
 use Rattle.av1_tiling.specs.Puts.{Tables, put, put_all, put_in, put_motion, put_view, coded_motion, coded_tables, PartLies}
-use Rattle.av1_tiling.specs.Coded.{IsCovered, entry_in, HasParts, IsTablePart, ArePartsApart, ViewLies, AreViewsApart, IsCodedPlane, IsCodedTable, AreCoded, motion_part, no_part}
+use Rattle.av1_tiling.specs.Coded.{IsCovered, entry_in, HasParts, IsTablePart, ArePartsApart, ViewLies, AreViewsApart, IsCodedPlane, IsCodedTable, IsCodedUnitTable, AreCoded, motion_part, no_part}
 use Rattle.av1_tiling.proofs.PutBack.{length-put_motion}
 
 -- lists of one length that agree at each place
@@ -232,6 +234,9 @@ put_view_lies tables v w a b = record {
   u = subst (λ n. IsTablePart n tables.rec.u.cfg.stride w.ts.rec.u) (sym (length-put tables.rec.u.cfg.stride tables.rec.u.samples v.ts.rec.u a.u)) b.u;
   v = subst (λ n. IsTablePart n tables.rec.v.cfg.stride w.ts.rec.v) (sym (length-put tables.rec.v.cfg.stride tables.rec.v.samples v.ts.rec.v a.v)) b.v;
   motion = put_motion_lies tables.motion v.ts.me_stats w.ts.me_stats a.motion b.motion;
+  y_units = subst (λ n. IsTablePart n tables.units.y.cols w.ts.units.y) (sym (length-put tables.units.y.cols tables.units.y.entries v.ts.units.y a.y_units)) b.y_units;
+  u_units = subst (λ n. IsTablePart n tables.units.u.cols w.ts.units.u) (sym (length-put tables.units.u.cols tables.units.u.entries v.ts.units.u a.u_units)) b.u_units;
+  v_units = subst (λ n. IsTablePart n tables.units.v.cols w.ts.units.v) (sym (length-put tables.units.v.cols tables.units.v.entries v.ts.units.v a.v_units)) b.v_units;
   blocks = subst (λ n. IsTablePart n tables.blocks.cols w.blocks) (sym (length-put tables.blocks.cols tables.blocks.entries v.blocks a.blocks)) b.blocks;
 }
 
@@ -296,6 +301,11 @@ module _ (tables : Tables) (views : List View) (each : All (ViewLies tables) vie
                 (apart.motion i);
           });
     };
+    units = record {
+      y = record { cfg = refl; cols = refl; rows = refl; entries = has_parts tables.units.y.cols (map (λ v. v.ts.units.y) views) tables.units.y.entries (each_of tables (λ v. v.ts.units.y) (length tables.units.y.entries) tables.units.y.cols (λ v h. h.y_units) views each) apart.y_units };
+      u = record { cfg = refl; cols = refl; rows = refl; entries = has_parts tables.units.u.cols (map (λ v. v.ts.units.u) views) tables.units.u.entries (each_of tables (λ v. v.ts.units.u) (length tables.units.u.entries) tables.units.u.cols (λ v h. h.u_units) views each) apart.u_units };
+      v = record { cfg = refl; cols = refl; rows = refl; entries = has_parts tables.units.v.cols (map (λ v. v.ts.units.v) views) tables.units.v.entries (each_of tables (λ v. v.ts.units.v) (length tables.units.v.entries) tables.units.v.cols (λ v h. h.v_units) views each) apart.v_units };
+    };
     blocks = record {
       cols = refl;
       rows = refl;
@@ -318,6 +328,14 @@ same_table parts old new other a b = λ i. record {
   entries = parts_unique old.cols parts old.entries new.entries other.entries a.entries b.entries i;
 }
 
+same_units : (parts : List (Part RestorationUnit)) (old new other : Units) → IsCodedUnitTable parts old new → IsCodedUnitTable parts old other → new ≡ other
+same_units parts old new other a b = λ i. record {
+  cfg = (a.cfg ∙ sym b.cfg) i;
+  cols = (a.cols ∙ sym b.cols) i;
+  rows = (a.rows ∙ sym b.rows) i;
+  entries = parts_unique old.cols parts old.entries new.entries other.entries a.entries b.entries i;
+}
+
 -- lists of one length with the same element at each place
 same_all : {E : Type 0} (xs ys : List E) → length xs ≡ length ys → ((k : ℕ) (d : E) → k < length xs → get_or xs k d ≡ get_or ys k d) → xs ≡ ys
 same_all [] [] long same = refl
@@ -333,8 +351,11 @@ coded_unique views old new other a b =
     let count = a.motion.count in
     let motion : new.motion ≡ other.motion = same_all new.motion other.motion (a.motion.count ∙ sym b.motion.count)
     (λ k d l. same_table (map (motion_part k) views) (get_or old.motion k d) (get_or new.motion k d) (get_or other.motion k d) (a.motion.tables k d (omega arith)) (b.motion.tables k d (omega arith))) in
+    let y_units = same_units (map (λ v. v.ts.units.y) views) old.units.y new.units.y other.units.y a.units.y b.units.y in
+    let u_units = same_units (map (λ v. v.ts.units.u) views) old.units.u new.units.u other.units.u a.units.u b.units.u in
+    let v_units = same_units (map (λ v. v.ts.units.v) views) old.units.v new.units.v other.units.v a.units.v b.units.v in
     let blocks = same_table (map (λ v. v.blocks) views) old.blocks new.blocks other.blocks a.blocks b.blocks in
-    λ i. record { rec = record { y = y i; u = u i; v = v i }; motion = motion i; blocks = blocks i }
+    λ i. record { rec = record { y = y i; u = u i; v = v i }; motion = motion i; units = record { y = y_units i; u = u_units i; v = v_units i }; blocks = blocks i }
 
 pub coded_are : (views : List View) (old new : Tables) → All (ViewLies old) views → AreViewsApart views → AreCoded views old new → new ≡ coded_tables old views
 coded_are views old new each apart coded = coded_unique views old new (coded_tables old views) coded (coded_have old views each apart)

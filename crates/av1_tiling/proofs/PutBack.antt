@@ -8,8 +8,9 @@ use Rattle.av1_plane.specs.declared.three.Three.{Three}
 use Rattle.av1_block.specs.declared.block.Block.{Block}
 use Rattle.av1_block.specs.declared.me_stats.MEStats.{MEStats}
 use Rattle.av1_block.specs.Rows.{Rows}
+use Rattle.av1_tiling.specs.Restoration.{Units}
 use Rattle.av1_tiling.specs.Views.{View, Part, PlaneView}
-use Rattle.av1_tiling.specs.Puts.{Tables, put, put_all, put_cuts, put_in, put_motion, put_view, coded_frame, coded_blocks, coded_motion, coded_tables}
+use Rattle.av1_tiling.specs.Puts.{Tables, put, put_all, put_cuts, put_in, put_motion, put_view, coded_frame, coded_blocks, coded_motion, coded_tables, put_units, coded_units}
 
 -- as many were written as there were
 pub refilled_whole : {T : Type 0} (n : ℕ) (old new : List T) → length old ≡ n → length new ≡ n → take n (new ++ drop (length new) old) ≡ new
@@ -49,12 +50,29 @@ coded_blocks-push blocks vs v = pushed (λ w. w.blocks) blocks vs v
 pub coded_blocks-none : (blocks : List Block) → coded_blocks blocks [] ≡ blocks
 coded_blocks-none blocks = put_all-none blocks
 
+-- units with nothing put back
+coded_units-none : (s : Three Units) → coded_units s [] ≡ s
+coded_units-none s = λ i. record {
+  y = record s.y { entries = put_all-none s.y.entries i };
+  u = record s.u { entries = put_all-none s.u.entries i };
+  v = record s.v { entries = put_all-none s.v.entries i };
+}
+
+-- with the units of one more view
+coded_units-push : (s : Three Units) (vs : List View) (v : View) → coded_units s (vs ++ v ∷ []) ≡ put_units (coded_units s vs) v.ts.units
+coded_units-push s vs v = λ i. record {
+  y = record s.y { entries = pushed (λ w. w.ts.units.y) s.y.entries vs v i };
+  u = record s.u { entries = pushed (λ w. w.ts.units.u) s.u.entries vs v i };
+  v = record s.v { entries = pushed (λ w. w.ts.units.v) s.v.entries vs v i };
+}
+
 -- tables with nothing put back
 pub coded_tables-none : (tables : Tables) → coded_tables tables [] ≡ tables
 unfolding coded_motion
 coded_tables-none tables = λ i. record {
   rec = coded_frame-none tables.rec i;
   motion = tables.motion;
+  units = coded_units-none tables.units i;
   blocks = record tables.blocks { entries = coded_blocks-none tables.blocks.entries i };
 }
 
@@ -68,6 +86,7 @@ pub coded_tables-push : (tables : Tables) (vs : List View) (v : View) → coded_
 coded_tables-push tables vs v = λ i. record {
   rec = coded_frame-push tables.rec vs v i;
   motion = coded_motion-push tables.motion vs v i;
+  units = coded_units-push tables.units vs v i;
   blocks = record tables.blocks { entries = coded_blocks-push tables.blocks.entries vs v i };
 }
 

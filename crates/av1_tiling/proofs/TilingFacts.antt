@@ -101,3 +101,18 @@ grid-sides s width height num den target_cols target_rows is_422 t e =
     let framed = some_when (is_frame s width height den) _ t e in
     let made = some_unless _ _ t framed.1 in
     (sym (ap (λ (x : TilingInfo). x.frame_width) made.1), sym (ap (λ (x : TilingInfo). x.frame_height) made.1), sym (ap (λ (x : TilingInfo). x.sb_size_log2) made.1))
+
+-- tiles of a 4:2:2 frame have an even number of superblocks across
+even_width : (s sb_cols target : ℕ) → tile_width s sb_cols target true % 2 ≡ 0
+unfolding tile_width
+even_width s sb_cols target = omega arith
+
+pub grid-even : (s width height num den target_cols target_rows : ℕ) (is_422 : Bool) (t : TilingInfo) → grid s width height num den target_cols target_rows is_422 ≡ Some t → is_422 ≡ true
+    → t.tile_width_sb % 2 ≡ 0
+grid-even s width height num den target_cols target_rows is_422 t e chosen =
+    let framed = some_when (is_frame s width height den) _ t e in
+    let made = some_unless _ _ t framed.1 in
+    let width_is : tile_width s (div_ceil (round_up width 8) (2 ^ s)) target_cols is_422 ≡ t.tile_width_sb = ap (λ (x : TilingInfo). x.tile_width_sb) made.1 in
+    let even : tile_width s (div_ceil (round_up width 8) (2 ^ s)) target_cols is_422 % 2 ≡ 0 =
+    subst (λ (b : Bool). tile_width s (div_ceil (round_up width 8) (2 ^ s)) target_cols b % 2 ≡ 0) (sym chosen) (even_width s (div_ceil (round_up width 8) (2 ^ s)) target_cols) in
+    subst (λ (n : ℕ). n % 2 ≡ 0) width_is even

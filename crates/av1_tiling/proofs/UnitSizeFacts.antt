@@ -105,11 +105,11 @@ of_two true = omega arith
 of_two false = omega arith
 
 -- the largest unit is halved twice at most
-base_most : (p : Parameters) → base_shift p ≤ 2
+pub base_most : (p : Parameters) → base_shift p ≤ 2
 base_most p = of_three (nat_lt 200 p.base_q_idx) (nat_lt 160 p.base_q_idx || p.sequence.use_128x128_superblock)
 
 -- and once more for chroma
-half_most : (p : Parameters) → chroma_shift p ≤ 1
+pub half_most : (p : Parameters) → chroma_shift p ≤ 1
 half_most p =
     let unit = 256 / 2 ^ base_shift p in
     of_two (base_shift p == 2 || (is_stretched p unit && not (is_stretched p (unit / 2))))

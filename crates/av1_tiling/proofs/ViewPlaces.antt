@@ -22,13 +22,17 @@ use Rattle.av1_block.specs.declared.me_stats.MEStats.{MEStats}
 use Rattle.av1_block.specs.Rows.{Rows}
 use Rattle.av1_tiling.specs.Coded.{IsTablePart, ArePartsApart, ViewLies, AreViewsApart, state_tables, motion_part, no_part}
 use Rattle.av1_tiling.specs.Puts.{Tables}
-use Rattle.av1_tiling.specs.Frames.{State, IsTilingOf, LiesInFrame, PartFits, shifted_rect, no_rect, stored_rect, plane_part, part_at, motion_parts, view_of, views, views_below}
-use Rattle.av1_tiling.specs.TileRects.{tile_superblock, tile_luma, tile_samples, tile_blocks, tile_motion, block_columns, block_rows}
+use Rattle.av1_tiling.specs.Frames.{State, IsTilingOf, LiesInFrame, PartFits, shifted_rect, no_rect, stored_rect, plane_part, part_at, motion_parts, view_of, views, views_below, unit_part, AreTileUnits}
+use Rattle.std.specs.Prelude.{◌^◌}
+use Rattle.std.specs.Int.{div_ceil}
+use Rattle.av1_tiling.specs.Restoration.{Units}
+use Rattle.av1_tiling.proofs.UnitPlaces.{units_lie, unit_rect_is}
+use Rattle.av1_tiling.specs.TileRects.{units_rect, tile_units, tile_superblock, tile_luma, tile_samples, tile_blocks, tile_motion, block_columns, block_rows}
 use Rattle.av1_tiling.specs.Views.{Part, PlaneView, View, SameRect, SameShape, IsFull, IsFullTable, AreFull, view_plane, view_frame}
 use Rattle.av1_tiling.specs.declared.tiling_info.TilingInfo.{TilingInfo}
 use Rattle.av1_tiling.proofs.Fits.{fits_y, fits_u, fits_v}
 use Rattle.av1_tiling.proofs.Inside.{Placed, placed, tiling_facts, luma_width, luma_height}
-use Rattle.av1_tiling.proofs.LawProofs.{cuts_planes, cuts_blocks, cuts_motion, motion_is_blocks}
+use Rattle.av1_tiling.proofs.LawProofs.{cuts_planes, cuts_blocks, cuts_motion, cuts_units, motion_is_blocks}
 use Rattle.av1_tiling.proofs.Parts.{part_lies}
 use Rattle.av1_tiling.proofs.TilingFacts.{IsTiling}
 
@@ -172,6 +176,13 @@ module _ (t : TilingInfo) (s : State) (blocks : List Block) (cols rows : ℕ) (m
         (subst (λ c. IsTablePart (length m.entries) m.cols (part_at m.entries c (tile_blocks t n))) wide
         (subst (λ c. IsTablePart (length m.entries) c (part_at m.entries (block_columns t) (tile_blocks t n))) (sym sides.0) (table_of m.entries long)))
 
+    -- the part of a plane's units belongs to them
+    pub units_of : (u : Units) → AreTileUnits t u → IsTablePart (length u.entries) u.cols (unit_part u (tile_superblock t n) (div_ceil (tile_luma t n).width (2 ^ t.sb_size_log2), div_ceil (tile_luma t n).height (2 ^ t.sb_size_log2)))
+    units_of u made_units =
+        let rect = units_rect (tile_superblock t n) (div_ceil (tile_luma t n).width (2 ^ t.sb_size_log2), div_ceil (tile_luma t n).height (2 ^ t.sb_size_log2)) (u.cfg.sb_h_shift, u.cfg.sb_v_shift) (u.cols, u.rows) in
+        let lies = units_lie u.cols u.rows (length u.entries) (tile_superblock t n) (div_ceil (tile_luma t n).width (2 ^ t.sb_size_log2), div_ceil (tile_luma t n).height (2 ^ t.sb_size_log2)) (u.cfg.sb_h_shift, u.cfg.sb_v_shift) made_units.units.whole in
+        record { lies = lies; table_cols = refl; whole = length-cut_of u.entries u.cols _ _ _ _ lies }
+
     -- a view lies in the tables that it was cut from
     pub view_lies : AreFull s.rec → length blocks ≡ cols * rows → ViewLies (state_tables s (record { cols = cols; rows = rows; entries = blocks })) (view_of t s blocks n)
     view_lies full long = record {
@@ -179,6 +190,9 @@ module _ (t : TilingInfo) (s : State) (blocks : List Block) (cols rows : ℕ) (m
       u = plane_of s.rec.u full.u tile_fits_u;
       v = plane_of s.rec.v full.v tile_fits_v;
       motion = zip_parts (tile_motion t n) s.frame_me_stats (λ k d l. motion_of (get_or s.frame_me_stats k d) (made.motion.full k d l) (made.motion.sides k d l));
+      y_units = units_of s.restoration.y made.y_units;
+      u_units = units_of s.restoration.u made.u_units;
+      v_units = units_of s.restoration.v made.v_units;
       blocks = table_of blocks long;
     }
 
@@ -195,6 +209,17 @@ module _ (t : TilingInfo) (s : State) (blocks : List Block) (cols rows : ℕ) (m
   pub motions_apart : (m n : ℕ) → m < n → n < t.cols * t.rows → AreApart (tile_motion t m) (tile_motion t n)
   motions_apart m n l k u v p q = let same = (cuts_motion t facts).apart m n u v (omega arith) k p q in omega arith
 
+  -- and no unit of a plane
+  pub units_apart : (u : Units) → AreTileUnits t u → (m n : ℕ) → m < n → n < t.cols * t.rows
+      → AreApart (unit_part u (tile_superblock t m) (div_ceil (tile_luma t m).width (2 ^ t.sb_size_log2), div_ceil (tile_luma t m).height (2 ^ t.sb_size_log2))).rect
+      (unit_part u (tile_superblock t n) (div_ceil (tile_luma t n).width (2 ^ t.sb_size_log2), div_ceil (tile_luma t n).height (2 ^ t.sb_size_log2))).rect
+  units_apart u made_units m n l k =
+      let rect_m = unit_rect_is t facts u m (omega arith) in
+      let rect_n = unit_rect_is t facts u n k in
+      subst (λ r. AreApart r (unit_part u (tile_superblock t n) (div_ceil (tile_luma t n).width (2 ^ t.sb_size_log2), div_ceil (tile_luma t n).height (2 ^ t.sb_size_log2))).rect) (sym rect_m)
+      (subst (AreApart (tile_units t u.cfg.sb_h_shift u.cfg.sb_v_shift u.cols u.rows m)) (sym rect_n)
+      (λ a b p q. let same = (cuts_units t facts u.cfg.sb_h_shift u.cfg.sb_v_shift u.cols u.rows made_units.across made_units.down).apart m n a b (omega arith) k p q in omega arith))
+
   -- so no two views have a place in common
   pub views_apart : AreViewsApart (views t s blocks)
   views_apart = record {
@@ -202,6 +227,9 @@ module _ (t : TilingInfo) (s : State) (blocks : List Block) (cols rows : ℕ) (m
     u = apart_parts (λ v. v.ts.rec.u) t s blocks (λ m n l k. planes_apart s.rec.u.cfg m n (tile_fits_u n k) l k);
     v = apart_parts (λ v. v.ts.rec.v) t s blocks (λ m n l k. planes_apart s.rec.v.cfg m n (tile_fits_v n k) l k);
     motion = λ i. apart_parts (motion_part i) t s blocks (λ m n l k. motion_apart s.frame_me_stats (tile_motion t m) (tile_motion t n) i (motions_apart m n l k));
+    y_units = apart_parts (λ v. v.ts.units.y) t s blocks (units_apart s.restoration.y made.y_units);
+    u_units = apart_parts (λ v. v.ts.units.u) t s blocks (units_apart s.restoration.u made.u_units);
+    v_units = apart_parts (λ v. v.ts.units.v) t s blocks (units_apart s.restoration.v made.v_units);
     blocks = apart_parts (λ v. v.blocks) t s blocks blocks_apart;
   }
 
@@ -233,6 +261,9 @@ coded_lies tables v w shape l = record {
   u = same_part (length tables.rec.u.samples) tables.rec.u.cfg.stride v.ts.rec.u w.ts.rec.u shape.u l.u;
   v = same_part (length tables.rec.v.samples) tables.rec.v.cfg.stride v.ts.rec.v w.ts.rec.v shape.v l.v;
   motion = same_motion tables.motion v.ts.me_stats w.ts.me_stats shape.motion l.motion;
+  y_units = same_part (length tables.units.y.entries) tables.units.y.cols v.ts.units.y w.ts.units.y shape.y_units l.y_units;
+  u_units = same_part (length tables.units.u.entries) tables.units.u.cols v.ts.units.u w.ts.units.u shape.u_units l.u_units;
+  v_units = same_part (length tables.units.v.entries) tables.units.v.cols v.ts.units.v w.ts.units.v shape.v_units l.v_units;
   blocks = same_part (length tables.blocks.entries) tables.blocks.cols v.blocks w.blocks shape.blocks l.blocks;
 }
 
@@ -276,6 +307,9 @@ module _ (before after : List View) (shapes : AllZip SameShape before after) whe
     u = parts_stay_apart (λ v. v.ts.rec.u) (λ v w s. s.u.rect) apart.u;
     v = parts_stay_apart (λ v. v.ts.rec.v) (λ v w s. s.v.rect) apart.v;
     motion = λ i. parts_stay_apart (motion_part i) (motion_stays_put i) (apart.motion i);
+    y_units = parts_stay_apart (λ v. v.ts.units.y) (λ v w s. s.y_units.rect) apart.y_units;
+    u_units = parts_stay_apart (λ v. v.ts.units.u) (λ v w s. s.u_units.rect) apart.u_units;
+    v_units = parts_stay_apart (λ v. v.ts.units.v) (λ v w s. s.v_units.rect) apart.v_units;
     blocks = parts_stay_apart (λ v. v.blocks) (λ v w s. s.blocks.rect) apart.blocks;
   }
 

@@ -5,6 +5,8 @@ use Rattle.av1_plane.specs.declared.three.Three.{Three}
 use Rattle.std.specs.List.{AllZip, slice_index_or}
 use Rattle.av1_block.specs.declared.block.Block.{Block}
 use Rattle.av1_block.specs.declared.me_stats.MEStats.{MEStats}
+use Rattle.av1_block.specs.declared.restoration_unit.RestorationUnit.{RestorationUnit}
+use Rattle.av1_tiling.specs.Restoration.{Units}
 use Rattle.av1_block.specs.Cut.{IsInside, AreApart}
 use Rattle.av1_block.specs.Rows.{Rows}
 use Rattle.av1_tiling.specs.Views.{View, Part, PlaneView}
@@ -37,7 +39,7 @@ ArePartsApart parts = AllPairs (λ one other. AreApart one.rect other.rect) part
 
 -- the tables of a state and of its blocks
 abbrev pub state_tables : State → Rows Block → Tables
-state_tables s blocks = record { rec = s.rec; motion = s.frame_me_stats; blocks = blocks }
+state_tables s blocks = record { rec = s.rec; motion = s.frame_me_stats; units = s.restoration; blocks = blocks }
 
 -- the parts of a view belong to these tables
 pub record ViewLies (tables : Tables) (view : View) : Type 0 where
@@ -45,6 +47,9 @@ pub record ViewLies (tables : Tables) (view : View) : Type 0 where
   pub u : IsTablePart (length tables.rec.u.samples) tables.rec.u.cfg.stride view.ts.rec.u
   pub v : IsTablePart (length tables.rec.v.samples) tables.rec.v.cfg.stride view.ts.rec.v
   pub motion : AllZip (λ t part. IsTablePart (length t.entries) t.cols part) tables.motion view.ts.me_stats
+  pub y_units : IsTablePart (length tables.units.y.entries) tables.units.y.cols view.ts.units.y
+  pub u_units : IsTablePart (length tables.units.u.entries) tables.units.u.cols view.ts.units.u
+  pub v_units : IsTablePart (length tables.units.v.entries) tables.units.v.cols view.ts.units.v
   pub blocks : IsTablePart (length tables.blocks.entries) tables.blocks.cols view.blocks
 
 -- no rectangle, cut out
@@ -55,12 +60,15 @@ no_part = record { rect = no_rect; table_cols = 0; entries = [] }
 abbrev pub motion_part : ℕ → View → Part MEStats
 motion_part i v = slice_index_or v.ts.me_stats i no_part
 
--- no two views have a sample, a motion record or a block in common
+-- no two views have a sample, a motion record, a restoration unit or a block in common
 pub record AreViewsApart (views : List View) : Type 0 where
   pub y : ArePartsApart (map (λ v. v.ts.rec.y) views)
   pub u : ArePartsApart (map (λ v. v.ts.rec.u) views)
   pub v : ArePartsApart (map (λ v. v.ts.rec.v) views)
   pub motion : (i : ℕ) → ArePartsApart (map (motion_part i) views)
+  pub y_units : ArePartsApart (map (λ v. v.ts.units.y) views)
+  pub u_units : ArePartsApart (map (λ v. v.ts.units.u) views)
+  pub v_units : ArePartsApart (map (λ v. v.ts.units.v) views)
   pub blocks : ArePartsApart (map (λ v. v.blocks) views)
 
 -- a plane whose samples are those of the parts, and elsewhere as they were
@@ -89,8 +97,22 @@ pub record IsCodedMotion (views : List View) (old new : List (Rows MEStats)) : T
   pub count : length new ≡ length old
   pub tables : (i : ℕ) (d : Rows MEStats) → i < length old → IsCodedTable (map (motion_part i) views) (slice_index_or old i d) (slice_index_or new i d)
 
+-- a plane's units
+pub record IsCodedUnitTable (parts : List (Part RestorationUnit)) (old new : Units) : Type 0 where
+  pub cfg : new.cfg ≡ old.cfg
+  pub cols : new.cols ≡ old.cols
+  pub rows : new.rows ≡ old.rows
+  pub entries : HasParts old.cols parts old.entries new.entries
+
+-- the units of all planes
+pub record AreCodedUnits (views : List View) (old new : Three Units) : Type 0 where
+  pub y : IsCodedUnitTable (map (λ v. v.ts.units.y) views) old.y new.y
+  pub u : IsCodedUnitTable (map (λ v. v.ts.units.u) views) old.u new.u
+  pub v : IsCodedUnitTable (map (λ v. v.ts.units.v) views) old.v new.v
+
 -- all tables have each view's content in its rectangles, and elsewhere what stood there
 pub record AreCoded (views : List View) (old new : Tables) : Type 0 where
   pub rec : IsCodedFrame views old.rec new.rec
   pub motion : IsCodedMotion views old.motion new.motion
+  pub units : AreCodedUnits views old.units new.units
   pub blocks : IsCodedTable (map (λ v. v.blocks) views) old.blocks new.blocks

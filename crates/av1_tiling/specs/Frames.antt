@@ -11,6 +11,7 @@ use Rattle.av1_plane.specs.declared.sampling.ChromaSampling.TheVariants.{Cs422}
 use Rattle.av1_plane.specs.declared.tile_rect.TileRect.{TileRect}
 use Rattle.av1_block.specs.declared.block.Block.{Block}
 use Rattle.av1_block.specs.declared.me_stats.MEStats.{MEStats}
+use Rattle.av1_block.specs.declared.restoration_unit.RestorationUnit.{RestorationUnit}
 use Rattle.av1_block.specs.Rows.{Rows}
 use Rattle.av1_block.specs.Cut.{cut_of}
 use Rattle.av1_tiling.specs.declared.deblock_state.DeblockState.{DeblockState}
@@ -18,35 +19,15 @@ use Rattle.av1_tiling.specs.Deblock.{default_deblock}
 use Rattle.av1_tiling.specs.declared.segmentation_state.SegmentationState.{SegmentationState}
 use Rattle.av1_tiling.specs.Segmentation.{default_segmentation}
 use Rattle.av1_tiling.specs.Motion.{blank_motion}
-use Rattle.av1_tiling.specs.declared.sequence.Sequence.{Sequence}
-use Rattle.av1_tiling.specs.declared.frame_invariants.FrameType.{FrameType}
 use Rattle.av1_tiling.specs.declared.tiling_info.TilingInfo.{TilingInfo}
 use Rattle.av1_tiling.specs.Grid.{grid, superblock_log2, IsBuiltSide}
 use Rattle.av1_plane.specs.Area.{decimated_tile}
-use Rattle.av1_tiling.specs.TileRects.{samples_rect, motion_rect, tile_superblock, tile_luma, tile_blocks, block_columns, block_rows}
+use Rattle.av1_tiling.specs.FitsUnits.{FitsUnits}
+use Rattle.av1_tiling.specs.TileRects.{units_rect, superblock_columns, superblock_rows, samples_rect, motion_rect, tile_superblock, tile_luma, tile_blocks, block_columns, block_rows}
+pub use Rattle.av1_tiling.specs.Parameters.{Parameters}
+use Rattle.av1_tiling.specs.Restoration.{Units}
+use Rattle.av1_tiling.specs.UnitSizes.{AreUnitsFor, start_units}
 use Rattle.av1_tiling.specs.Views.{PlaneView, Part, TileState, View, IsFullTable}
-
--- what stays while a frame is coded
-pub record Parameters : Type 0 where
-  pub sequence : Sequence
-  pub width : ℕ
-  pub height : ℕ
-  pub sb_width : ℕ
-  pub sb_height : ℕ
-  pub w_in_b : ℕ
-  pub h_in_b : ℕ
-  pub frame_type : FrameType
-  pub base_q_idx : ℕ
-  pub ac_quantizer : ℕ
-  pub cdef_damping : ℕ
-  pub cdef_y_strengths : List ℕ
-  pub cdef_uv_strengths : List ℕ
-  pub fast_deblock : Bool
-  pub disable_frame_end_update_cdf : Bool
-  pub order_hint : ℕ
-  pub render_width : ℕ
-  pub render_height : ℕ
-  pub refresh_frame_flags : ℕ
 
 -- what changes
 pub record State : Type 0 where
@@ -58,6 +39,7 @@ pub record State : Type 0 where
   pub max_tile_size_bytes : ℕ
   pub deblock : DeblockState
   pub segmentation : SegmentationState
+  pub restoration : Three Units
   pub frame_me_stats : List (Rows MEStats)
 
 -- eight tables of motion records, one for each reference, with these sides
@@ -118,6 +100,7 @@ pub record IsStateFor (p : Parameters) (s : State) : Type 0 where
   pub y_range : IsInRange (2 ^ p.sequence.bit_depth) s.input.y
   pub u_range : IsInRange (2 ^ p.sequence.bit_depth) s.input.u
   pub v_range : IsInRange (2 ^ p.sequence.bit_depth) s.input.v
+  pub restoration : AreUnitsFor p s.restoration
   pub motion : AreMotionTables p.w_in_b p.h_in_b s.frame_me_stats
   pub shift : s.deblock.block_delta_shift ≤ 3
 
@@ -157,6 +140,7 @@ start p input hres qres = record {
   max_tile_size_bytes = 0;
   deblock = default_deblock;
   segmentation = default_segmentation;
+  restoration = start_units p;
   frame_me_stats = replicate 8 (blank_motion p.w_in_b p.h_in_b);
 }
 
@@ -190,6 +174,25 @@ frame_parts f luma = record { y = plane_part f.y luma; u = plane_part f.u luma; 
 abbrev pub motion_parts : List (Rows MEStats) → TileRect → List (Part MEStats)
 motion_parts tables rect = map (λ t. part_at t.entries t.cols rect) tables
 
+-- the part of a plane's units that a tile of so many superblocks covers
+abbrev pub unit_part : Units → (superblock superblocks : ℕ × ℕ) → Part RestorationUnit
+unit_part u superblock superblocks =
+    part_at u.entries u.cols (units_rect superblock superblocks (u.cfg.sb_h_shift, u.cfg.sb_v_shift) (u.cols, u.rows))
+
+-- the parts of all planes
+abbrev pub unit_parts : Three Units → (superblock superblocks : ℕ × ℕ) → Three (Part RestorationUnit)
+unit_parts s superblock superblocks = record {
+  y = unit_part s.y superblock superblocks;
+  u = unit_part s.u superblock superblocks;
+  v = unit_part s.v superblock superblocks;
+}
+
+-- a plane's units can be cut: there are as many as the table's sides say, and a unit has at most 2^8 superblocks a side
+pub record CanCutUnits (u : Units) : Type 0 where
+  pub whole : length u.entries ≡ u.cols * u.rows
+  pub across : u.cfg.sb_h_shift ≤ 8
+  pub down : u.cfg.sb_v_shift ≤ 8
+
 -- a table holds a rectangle
 pub record HoldsRect {E : Type 0} (rect : TileRect) (table : Rows E) : Type 0 where
   pub across : rect.x + rect.width ≤ table.cols
@@ -211,6 +214,9 @@ pub record LiesInFrame (s : State) (superblock : ℕ × ℕ) (sb_size_log2 width
   pub sampling : ChromaSampling
   pub layout : layouts s.rec ≡ frame_layout frame_width frame_height sampling
   pub motion : AreMotionTables (rounded frame_width / 4) (rounded frame_height / 4) s.frame_me_stats
+  pub y_units : CanCutUnits s.restoration.y
+  pub u_units : CanCutUnits s.restoration.u
+  pub v_units : CanCutUnits s.restoration.v
   pub width_limit : frame_width ≤ 65536
   pub height_limit : frame_height ≤ 65536
   pub wide : superblock.0 * 2 ^ sb_size_log2 + width ≤ rounded frame_width
@@ -235,6 +241,7 @@ tile_state s superblock sb_size_log2 width height =
       deblock = s.deblock;
       segmentation = s.segmentation;
       rec = frame_parts s.rec (samples_rect superblock sb_size_log2 width height);
+      units = unit_parts s.restoration superblock (div_ceil width side, div_ceil height side);
       me_stats = motion_parts s.frame_me_stats (motion_rect superblock sb_size_log2 width height);
     }
 
@@ -255,6 +262,12 @@ views_below t s blocks (suc n) = views_below t s blocks n ++ view_of t s blocks 
 abbrev pub views : TilingInfo → State → List Block → List View
 views t s blocks = views_below t s blocks (t.cols * t.rows)
 
+-- a plane's units lie in whole tiles: each of several tiles begins with a unit, and the units are no more than cover the frame
+pub record AreTileUnits (t : TilingInfo) (u : Units) : Type 0 where
+  pub units : CanCutUnits u
+  pub across : FitsUnits u.cfg.sb_h_shift u.cols t.cols t.tile_width_sb (superblock_columns t)
+  pub down : FitsUnits u.cfg.sb_v_shift u.rows t.rows t.tile_height_sb (superblock_rows t)
+
 -- the tiling of some frame whose state this is and whose block table has these sides
 pub record IsTilingOf (t : TilingInfo) (s : State) (cols rows : ℕ) : Type 0 where
   pub width : ℕ
@@ -268,5 +281,8 @@ pub record IsTilingOf (t : TilingInfo) (s : State) (cols rows : ℕ) : Type 0 wh
   pub built : IsBuiltSide t.sb_size_log2
   pub layout : layouts s.rec ≡ frame_layout width height sampling
   pub motion : AreMotionTables cols rows s.frame_me_stats
+  pub y_units : AreTileUnits t s.restoration.y
+  pub u_units : AreTileUnits t s.restoration.u
+  pub v_units : AreTileUnits t s.restoration.v
   pub wide : cols ≡ block_columns t
   pub high : rows ≡ block_rows t

@@ -1,11 +1,14 @@
 -- What holds of every tiling.
 use Rattle.av1_block.specs.declared.block.Block.{Block}
+pub use Rattle.av1_tiling.specs.FitsUnits.{FitsUnits}
 use Rattle.av1_tiling.specs.Views.{Part, View, SameShape, AreFull}
-use Rattle.av1_tiling.specs.Frames.{State, IsTilingOf, view_of}
-use Rattle.av1_tiling.specs.Puts.{put, put_all, put_cuts, put_motion}
+use Rattle.av1_tiling.specs.declared.restoration_plane.RestorationPlaneConfig.{RestorationPlaneConfig}
+use Rattle.av1_tiling.specs.UnitSizes.{unit_layouts}
+use Rattle.av1_tiling.specs.Frames.{Parameters, State, IsFrame, IsTilingOf, view_of}
+use Rattle.av1_tiling.specs.Puts.{put, put_all, put_cuts, put_motion, put_units}
 use Rattle.av1_tiling.specs.Coded.{HasParts, IsTablePart, ArePartsApart}
 use Rattle.std.specs.List.Sorted.{IsPermutation}
-use Rattle.std.specs.Prelude.{ℕ, List, length, All, Bool, Some, ◌≡◌, ◌≢◌, ◌⊎◌, ◌*◌, ◌/◌, ◌%◌, ◌^◌, ◌<◌, ◌≤◌}
+use Rattle.std.specs.Prelude.{ℕ, List, length, All, Bool, Some, ◌≡◌, ◌≢◌, ◌*◌, ◌/◌, ◌%◌, ◌^◌, ◌<◌, ◌≤◌}
 use Rattle.std.specs.Int.{div_ceil}
 use Rattle.av1_tiling.specs.Least.{tile_log2}
 use Rattle.av1_tiling.specs.Grid.{grid}
@@ -33,12 +36,6 @@ CutsBlocks t = Partitions (tile_blocks t) (t.cols * t.rows) (block_columns t) (b
 abbrev pub CutsMotion : TilingInfo → Type 0
 CutsMotion t = Partitions (tile_motion t) (t.cols * t.rows) (block_columns t) (block_rows t)
 
--- along one side: count units of 2 ^ shift superblocks are no more than cover the frame,
--- and of several tiles each begins with a unit
-pub record FitsUnits (shift count tiles tile_sb frame_sb : ℕ) : Type 0 where
-  pub aligned : (tiles ≡ 1) ⊎ (tile_sb % 2 ^ shift ≡ 0)
-  pub covered : count ≤ div_ceil frame_sb (2 ^ shift)
-
 -- the tiles cut a table of such restoration units into parts
 abbrev pub CutsUnits : TilingInfo → Type 0
 CutsUnits t =
@@ -46,6 +43,21 @@ CutsUnits t =
     → FitsUnits h_shift columns t.cols t.tile_width_sb (superblock_columns t)
     → FitsUnits v_shift rows t.rows t.tile_height_sb (superblock_rows t)
     → Partitions (tile_units t h_shift v_shift columns rows) (t.cols * t.rows) columns rows
+
+-- the tiles cut a table of units with this layout into parts
+abbrev pub CutsLayout : TilingInfo → RestorationPlaneConfig → Type 0
+CutsLayout t cfg =
+    Partitions (tile_units t cfg.sb_h_shift cfg.sb_v_shift cfg.cols cfg.rows) (t.cols * t.rows) cfg.cols cfg.rows
+
+-- those of a frame cut the units of each plane
+pub record CutsFrameUnits (p : Parameters) : Type 0 where
+  pub y : CutsLayout p.sequence.tiling (unit_layouts p).y
+  pub u : CutsLayout p.sequence.tiling (unit_layouts p).u
+  pub v : CutsLayout p.sequence.tiling (unit_layouts p).v
+
+-- whatever its sides, sampling, tiles and quantiser
+abbrev pub FramesCutUnits : Type 0
+FramesCutUnits = (limit : ℕ) (p : Parameters) → IsFrame limit p → CutsFrameUnits p
 
 -- the logarithms are those of the numbers of columns and rows
 abbrev pub CountsByLog2 : TilingInfo → Type 0
@@ -67,7 +79,11 @@ PutsInAnyOrder E = (cols : ℕ) (parts other : List (Part E)) (table : List E) �
 
 -- a state with what a view has of it put back
 abbrev pub with_view : State → View → State
-with_view s v = record s { rec = put_cuts s.rec v.ts.rec; frame_me_stats = put_motion s.frame_me_stats v.ts.me_stats }
+with_view s v = record s {
+  rec = put_cuts s.rec v.ts.rec;
+  frame_me_stats = put_motion s.frame_me_stats v.ts.me_stats;
+  restoration = put_units s.restoration v.ts.units;
+}
 
 -- what is written through the view of one tile changes the view of no other
 abbrev pub OthersStay : Type 0

@@ -5,6 +5,8 @@ pub mod Least
 pub mod TileRects
 pub mod Views
 pub mod Motion
+pub mod Parameters
+pub mod FitsUnits
 pub mod Frames
 pub mod Laws
 pub mod Partition
@@ -14,3 +16,5 @@ pub mod Tiles
 pub mod SgrSets
 pub mod Restoration
 pub mod UnitSizes
+pub mod UnitViews
+pub mod References

@@ -5,8 +5,11 @@ use Rattle.av1_plane.specs.declared.frame.Frame.{Frame}
 use Rattle.av1_plane.specs.declared.three.Three.{Three}
 use Rattle.av1_block.specs.declared.block.Block.{Block}
 use Rattle.av1_block.specs.declared.me_stats.MEStats.{MEStats}
+use Rattle.av1_block.specs.declared.restoration_unit.RestorationUnit.{RestorationUnit}
 use Rattle.av1_block.specs.Rows.{Rows}
 use Rattle.av1_block.specs.Cut.{LiesIn, with_cut}
+use Rattle.av1_tiling.specs.declared.restoration_state.RestorationState.{RestorationState}
+use Rattle.av1_tiling.specs.Restoration.{Units, units_in}
 use Rattle.av1_tiling.specs.Views.{View, Part, PlaneView, view_frame}
 
 -- a table with a part put back where it was cut out
@@ -21,13 +24,15 @@ put_in table part = record table { entries = put table.entries part }
 pub record Tables : Type 0 where
   pub rec : Three PlaneView
   pub motion : List (Rows MEStats)
+  pub units : Three Units
   pub blocks : Rows Block
 
--- a frame's planes, motion records and blocks
-abbrev pub tables_of : {X : Type 0} → (X → ℤ) → Frame X → List (Rows MEStats) → Rows Block → Tables
-tables_of number f me blocks = record {
+-- a frame's planes, motion records, restoration units and blocks
+abbrev pub tables_of : {X : Type 0} → (X → ℤ) → Frame X → List (Rows MEStats) → RestorationState → Rows Block → Tables
+tables_of number f me units blocks = record {
   rec = view_frame number f;
   motion = me;
+  units = units_in units;
   blocks = blocks;
 }
 
@@ -45,11 +50,23 @@ put_motion [] parts = []
 put_motion (table ∷ tables) [] = table ∷ tables
 put_motion (table ∷ tables) (part ∷ parts) = put_in table part ∷ put_motion tables parts
 
+-- a plane's units with a part put back, and the units of three planes
+abbrev pub put_unit_part : Units → Part RestorationUnit → Units
+put_unit_part u part = record u { entries = put u.entries part }
+
+abbrev pub put_units : Three Units → Three (Part RestorationUnit) → Three Units
+put_units s parts = record {
+  y = put_unit_part s.y parts.y;
+  u = put_unit_part s.u parts.u;
+  v = put_unit_part s.v parts.v;
+}
+
 -- all tables with a view put back
 abbrev pub put_view : Tables → View → Tables
 put_view tables v = record {
   rec = put_cuts tables.rec v.ts.rec;
   motion = put_motion tables.motion v.ts.me_stats;
+  units = put_units tables.units v.ts.units;
   blocks = put_in tables.blocks v.blocks;
 }
 
@@ -78,11 +95,23 @@ unfoldable pub coded_motion : List (Rows MEStats) → List View → List (Rows M
 coded_motion tables [] = tables
 coded_motion tables (v ∷ views) = coded_motion (put_motion tables v.ts.me_stats) views
 
+-- the units with those of these views put back
+abbrev pub coded_unit_part : Units → List (Part RestorationUnit) → Units
+coded_unit_part u parts = record u { entries = put_all u.entries parts }
+
+abbrev pub coded_units : Three Units → List View → Three Units
+coded_units s views = record {
+  y = coded_unit_part s.y (map (λ v. v.ts.units.y) views);
+  u = coded_unit_part s.u (map (λ v. v.ts.units.u) views);
+  v = coded_unit_part s.v (map (λ v. v.ts.units.v) views);
+}
+
 -- all tables with these views put back
 abbrev pub coded_tables : Tables → List View → Tables
 coded_tables tables views = record {
   rec = coded_frame tables.rec views;
   motion = coded_motion tables.motion views;
+  units = coded_units tables.units views;
   blocks = record tables.blocks { entries = coded_blocks tables.blocks.entries views };
 }
 

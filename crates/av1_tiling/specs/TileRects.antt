@@ -90,14 +90,20 @@ motion_rect superblock sb_size_log2 width height =
 abbrev pub tile_motion : TilingInfo → ℕ → TileRect
 tile_motion t n = motion_rect (tile_superblock t n) t.sb_size_log2 (tile_luma t n).width (tile_luma t n).height
 
--- the tile's units of a plane with columns by rows of them, a unit having 2 ^ h_shift by 2 ^ v_shift superblocks
-abbrev pub tile_units : TilingInfo → (h_shift v_shift columns rows : ℕ) → ℕ → TileRect
-tile_units t h_shift v_shift columns rows n =
-    let x = min ((tile_superblock t n).0 / 2 ^ h_shift) columns in
-    let y = min ((tile_superblock t n).1 / 2 ^ v_shift) rows in
+-- the units of a tile with this first superblock and so many superblocks, in a table of units of these sides; a unit has
+-- 2 ^ shift superblocks a side
+abbrev pub units_rect : (superblock superblocks shifts sides : ℕ × ℕ) → TileRect
+units_rect superblock superblocks shifts sides =
+    let x = min (superblock.0 / 2 ^ shifts.0) sides.0 in
+    let y = min (superblock.1 / 2 ^ shifts.1) sides.1 in
     record {
       x = x;
       y = y;
-      width = min (div_ceil (tile_superblocks t n).0 (2 ^ h_shift)) (columns - x);
-      height = min (div_ceil (tile_superblocks t n).1 (2 ^ v_shift)) (rows - y);
+      width = min (div_ceil superblocks.0 (2 ^ shifts.0)) (sides.0 - x);
+      height = min (div_ceil superblocks.1 (2 ^ shifts.1)) (sides.1 - y);
     }
+
+-- the tile's units of a plane with columns by rows of them
+abbrev pub tile_units : TilingInfo → (h_shift v_shift columns rows : ℕ) → ℕ → TileRect
+tile_units t h_shift v_shift columns rows n =
+    units_rect (tile_superblock t n) (tile_superblocks t n) (h_shift, v_shift) (columns, rows)

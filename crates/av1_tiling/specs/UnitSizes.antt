@@ -8,7 +8,7 @@ use Rattle.av1_plane.specs.Sampling.{decimation}
 use Rattle.av1_tiling.specs.declared.tiling_info.TilingInfo.{TilingInfo}
 use Rattle.av1_tiling.specs.declared.unit_sizes.UnitSizes.{UnitSizes}
 use Rattle.av1_tiling.specs.declared.restoration_plane.RestorationPlaneConfig.{RestorationPlaneConfig}
-use Rattle.av1_tiling.specs.Frames.{Parameters}
+use Rattle.av1_tiling.specs.Parameters.{Parameters}
 use Rattle.av1_tiling.specs.Restoration.{Units, HasLayout, blank_units}
 
 -- by which power of two the chroma planes are narrower and lower than luma; without chroma their units are laid out as luma's

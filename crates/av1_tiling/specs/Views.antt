@@ -7,6 +7,7 @@ use Rattle.av1_plane.specs.declared.plane.Plane.{Plane}
 use Rattle.av1_plane.specs.declared.frame.Frame.{Frame}
 use Rattle.av1_block.specs.declared.block.Block.{Block}
 use Rattle.av1_block.specs.declared.me_stats.MEStats.{MEStats}
+use Rattle.av1_block.specs.declared.restoration_unit.RestorationUnit.{RestorationUnit}
 use Rattle.av1_plane.specs.declared.tile_rect.TileRect.{TileRect}
 use Rattle.av1_block.specs.declared.cut.Cut.{Cut}
 use Rattle.av1_block.specs.Cut.{cut_entries, cut_rect, cut_table_cols}
@@ -52,6 +53,9 @@ view_cut c = record { rect = cut_rect c; table_cols = cut_table_cols c; entries 
 abbrev pub view_samples : {X : Type 0} → (X → ℤ) → Cut X → Part ℤ
 view_samples number c = record { rect = cut_rect c; table_cols = cut_table_cols c; entries = map number (cut_entries c) }
 
+abbrev pub view_units : Three (Cut RestorationUnit) → Three (Part RestorationUnit)
+view_units t = record { y = view_cut t.y; u = view_cut t.u; v = view_cut t.v }
+
 abbrev pub view_cuts : {X : Type 0} → (X → ℤ) → Three (Cut X) → Three (Part ℤ)
 view_cuts number t = record { y = view_samples number t.y; u = view_samples number t.u; v = view_samples number t.v }
 
@@ -60,7 +64,7 @@ abbrev pub part_with_entries : {E : Type 0} → Part E → List E → Part E
 part_with_entries p entries = record p { entries = refilled p.entries entries }
 
 -- the part of a frame's state that one tile is coded from: the place and the sides of the tile, the input, copies of the
--- states of deblocking and segmentation, and the tile's samples and motion records, which are put back
+-- states of deblocking and segmentation, and the tile's samples, restoration units and motion records, which are put back
 pub record TileState : Type 0 where
   pub superblock : ℕ × ℕ
   pub sb_size_log2 : ℕ
@@ -76,6 +80,7 @@ pub record TileState : Type 0 where
   pub deblock : DeblockState
   pub segmentation : SegmentationState
   pub rec : Three (Part ℤ)
+  pub units : Three (Part RestorationUnit)
   pub me_stats : List (Part MEStats)
 
 -- that and the tile's blocks, out of a table with these sides
@@ -96,6 +101,13 @@ with_samples t pli samples =
     else if pli == 1 then record t { rec = record t.rec { u = part_with_entries t.rec.u samples } }
     else record t { rec = record t.rec { v = part_with_entries t.rec.v samples } }
 
+-- a tile's state with these restoration units in plane pli
+abbrev pub with_units : TileState → ℕ → List RestorationUnit → TileState
+with_units t pli units =
+    if pli == 0 then record t { units = record t.units { y = part_with_entries t.units.y units } }
+    else if pli == 1 then record t { units = record t.units { u = part_with_entries t.units.u units } }
+    else record t { units = record t.units { v = part_with_entries t.units.v units } }
+
 -- a view with these blocks
 abbrev pub with_blocks : View → List Block → View
 with_blocks v blocks = record v { blocks = part_with_entries v.blocks blocks }
@@ -111,6 +123,9 @@ pub record SameShape (before after : View) : Type 0 where
   pub y : SameRect before.ts.rec.y after.ts.rec.y
   pub u : SameRect before.ts.rec.u after.ts.rec.u
   pub v : SameRect before.ts.rec.v after.ts.rec.v
+  pub y_units : SameRect before.ts.units.y after.ts.units.y
+  pub u_units : SameRect before.ts.units.u after.ts.units.u
+  pub v_units : SameRect before.ts.units.v after.ts.units.v
   pub motion : AllZip SameRect before.ts.me_stats after.ts.me_stats
   pub blocks : SameRect before.blocks after.blocks
   pub frame_cols : after.frame_cols ≡ before.frame_cols

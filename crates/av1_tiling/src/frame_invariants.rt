@@ -1,5 +1,7 @@
+use crate::reference_frames_set::ReferenceFramesSet;
 use crate::sequence::Sequence;
-use std::marker::{Model, PhantomData};
+use av1_plane::Pixel;
+use std::marker::Model;
 
 /// Type of a frame (AV1 specification, section 6.8.2).
 #[derive(Clone, Copy, Debug, PartialEq, Eq)]
@@ -12,7 +14,7 @@ pub enum FrameType {
 
 /// What does not change while a frame is coded.
 #[derive(Debug, Drop)]
-pub struct FrameInvariants<T> {
+pub struct FrameInvariants<T: Pixel> {
     pub sequence: Sequence,
     pub width: usize,
     pub height: usize,
@@ -34,10 +36,11 @@ pub struct FrameInvariants<T> {
     pub render_width: u32,
     pub render_height: u32,
     pub refresh_frame_flags: u32,
-    pub sample: PhantomData<T>,
+    /// The slots of reference frames.
+    pub rec_buffer: ReferenceFramesSet<T>,
 }
 
-impl<T> Model for FrameInvariants<T> {
+impl<T: Pixel> Model for FrameInvariants<T> {
     ghost use Rattle.av1_tiling.specs.Frames.{Parameters};
 
     ghost Value = { Parameters };
@@ -62,5 +65,6 @@ impl<T> Model for FrameInvariants<T> {
       render_width = fi.render_width;
       render_height = fi.render_height;
       refresh_frame_flags = fi.refresh_frame_flags;
+      rec_buffer = fi.rec_buffer;
     } };
 }

@@ -3,6 +3,7 @@ ghost use Rattle.av1_tiling.specs.Motion.{blank_motion};
 
 use crate::deblock_state::DeblockState;
 use crate::frame_invariants::FrameInvariants;
+use crate::restoration_state::RestorationState;
 use crate::segmentation_state::SegmentationState;
 use av1_block::FrameMEStats;
 use av1_plane::{Frame, FrameAlloc, OutOfMemory, Pixel, Plane};
@@ -25,6 +26,8 @@ pub struct FrameState<T: Pixel> {
     pub max_tile_size_bytes: u32,
     pub deblock: DeblockState,
     pub segmentation: SegmentationState,
+    /// The units of loop restoration.
+    pub restoration: RestorationState,
     /// Eight tables, one for each reference.
     pub frame_me_stats: Vec<FrameMEStats>,
 }
@@ -34,6 +37,7 @@ impl<T: Pixel> Model for FrameState<T> {
     ghost use Rattle.std.specs.Arc.{arc_value};
     ghost use Rattle.av1_tiling.specs.Views.{view_plane, view_frame};
     ghost use Rattle.av1_tiling.specs.Frames.{State};
+    ghost use Rattle.av1_tiling.specs.Restoration.{units_in};
 
     ghost Value = { State };
 
@@ -46,6 +50,7 @@ impl<T: Pixel> Model for FrameState<T> {
       max_tile_size_bytes = fs.max_tile_size_bytes;
       deblock = fs.deblock;
       segmentation = fs.segmentation;
+      restoration = units_in fs.restoration;
       frame_me_stats = fs.frame_me_stats.items;
     } };
 }
@@ -73,6 +78,7 @@ impl<T: Pixel> FrameState<T> {
         ensures made_for { IfOk result (λ fs. IsStateFor fi.now fs) }
     {
         let rec = Frame::new(alloc, fi.width, fi.height, fi.sequence.chroma_sampling)?;
+        let restoration = RestorationState::new(alloc, fi, &input)?;
         let frame_me_stats = blank_motion(alloc, fi.w_in_b, fi.h_in_b)?;
         Ok(FrameState {
             input,
@@ -83,6 +89,7 @@ impl<T: Pixel> FrameState<T> {
             max_tile_size_bytes: 0,
             deblock: DeblockState::default(),
             segmentation: SegmentationState::default(),
+            restoration,
             frame_me_stats,
         })
     }

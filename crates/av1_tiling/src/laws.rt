@@ -1,6 +1,6 @@
 //! Facts about every tiling that `TilingInfo::from_target_tiles` answers. Each is the contract of a
 //! function that does nothing.
-ghost use Rattle.av1_tiling.specs.Laws.{ForTilings, CutsPlanes, CutsBlocks, CutsMotion, CutsUnits, CountsByLog2, PartsAreUnique, PutsHaveParts, PutsInAnyOrder, OthersStay};
+ghost use Rattle.av1_tiling.specs.Laws.{ForTilings, CutsPlanes, CutsBlocks, CutsMotion, CutsUnits, FramesCutUnits, CountsByLog2, PartsAreUnique, PutsHaveParts, PutsInAnyOrder, OthersStay};
 
 /// The rectangles of the tiles in a plane have no sample in common, and together are the plane, rounded
 /// up to whole superblocks.
@@ -22,6 +22,12 @@ pub fn tiles_cut_motion()
 /// units are no more than cover the frame.
 pub fn tiles_cut_units()
     ensures { ForTilings CutsUnits }
+{}
+
+/// Each restoration unit of a frame lies in exactly one tile, for every frame and the sizes of units
+/// that its quantiser, its sides and its tiles give.
+pub fn frames_cut_units()
+    ensures { FramesCutUnits }
 {}
 
 /// The logarithms of columns and rows are those of their numbers.

@@ -10,6 +10,8 @@ mod frame_state;
 pub mod laws;
 mod part;
 mod putting;
+mod reference_frame;
+mod reference_frames_set;
 mod restoration;
 mod restoration_plane;
 mod restoration_state;
@@ -21,10 +23,13 @@ mod tile_context;
 mod tile_context_iter;
 mod tile_limits;
 mod tile_rects;
+mod tile_restoration_plane;
+mod tile_restoration_plane_mut;
 mod tile_state;
 mod tiler;
 mod tiling_error;
 mod tiling_info;
+mod unit_side;
 mod unit_sizes;
 
 pub use av1_block::{
@@ -35,6 +40,8 @@ pub use deblock_state::DeblockState;
 pub use frame_invariants::{FrameInvariants, FrameType};
 pub use frame_state::FrameState;
 pub use putting::put_back;
+pub use reference_frame::ReferenceFrame;
+pub use reference_frames_set::ReferenceFramesSet;
 pub use restoration::{
     IMAGE_WIDTH_MAX, RESTORATION_TILESIZE_MAX_LOG2, RESTORE_NONE, RESTORE_SGRPROJ,
     RESTORE_SWITCHABLE, RESTORE_WIENER, SGRComplexityLevel, SGRPROJ_MTABLE_BITS,
@@ -50,6 +57,8 @@ pub use segmentation_state::SegmentationState;
 pub use sequence::Sequence;
 pub use tile_context::TileContextMut;
 pub use tile_context_iter::TileContextIterMut;
+pub use tile_restoration_plane::TileRestorationPlane;
+pub use tile_restoration_plane_mut::TileRestorationPlaneMut;
 pub use tile_state::TileStateMut;
 pub use tiling_error::TilingError;
 pub use tiling_info::{

@@ -1,9 +1,12 @@
 ghost use Rattle.std.specs.Prelude.{◌≡◌, ◌<◌, ◌^◌, IfOk, All, map};
-ghost use Rattle.av1_tiling.specs.Views.{view_plane, view_samples, view_frame, view_cuts, view_cut};
-ghost use Rattle.av1_tiling.specs.TileRects.{samples_rect, motion_rect};
-ghost use Rattle.av1_tiling.specs.Frames.{stored_rect, plane_part, frame_parts, motion_parts, PartFits, HoldsRect};
+ghost use Rattle.av1_tiling.specs.Views.{view_plane, view_samples, view_frame, view_cuts, view_cut, view_units};
+ghost use Rattle.av1_tiling.specs.Restoration.{units_of, units_in};
+ghost use Rattle.av1_tiling.specs.TileRects.{samples_rect, motion_rect, units_rect};
+ghost use Rattle.av1_tiling.specs.Frames.{stored_rect, plane_part, frame_parts, motion_parts, unit_part, unit_parts, PartFits, HoldsRect, CanCutUnits};
 
-use av1_block::{Cut, FrameMEStats, MEStats};
+use crate::restoration_plane::RestorationPlane;
+use crate::restoration_state::RestorationState;
+use av1_block::{Cut, FrameMEStats, MEStats, RestorationUnit};
 use av1_plane::{
     Frame, OutOfMemory, Pixel, Plane, PlaneConfig, PlaneSuperBlockOffset, Three, TileRect,
 };
@@ -109,4 +112,74 @@ pub(crate) fn cut_motion(
         cuts.push(Cut::take(alloc, table.entries(), table.cols, rect)?)?;
     }
     Ok(cuts)
+}
+
+/// The units of a tile's view in a plane.
+pub(crate) fn units_rect(
+    plane: &RestorationPlane,
+    sbo: PlaneSuperBlockOffset,
+    sb_width: usize,
+    sb_height: usize,
+) -> TileRect
+    requires units { CanCutUnits (units_of plane.now) }
+    requires width { sb_width < 2 ^ 32 }
+    requires height { sb_height < 2 ^ 32 }
+    ensures { result ≡ units_rect (sbo.0.x, sbo.0.y) (sb_width, sb_height)
+        (plane.now.cfg.sb_h_shift, plane.now.cfg.sb_v_shift)
+        (plane.now.units.cols, plane.now.units.rows) }
+{
+    let units = &plane.units;
+    let x = (sbo.0.x >> plane.cfg.sb_h_shift).min(units.cols);
+    let y = (sbo.0.y >> plane.cfg.sb_v_shift).min(units.rows);
+    TileRect {
+        x,
+        y,
+        width: sb_width
+            .div_ceil(1 << plane.cfg.sb_h_shift)
+            .min(units.cols - x),
+        height: sb_height
+            .div_ceil(1 << plane.cfg.sb_v_shift)
+            .min(units.rows - y),
+    }
+}
+
+// The part of a plane's units that a tile of so many superblocks covers.
+fn cut_plane_units(
+    alloc: Global,
+    plane: &RestorationPlane,
+    sbo: PlaneSuperBlockOffset,
+    sb_width: usize,
+    sb_height: usize,
+) -> Result<Cut<RestorationUnit>, OutOfMemory>
+    requires units { CanCutUnits (units_of plane.now) }
+    requires width { sb_width < 2 ^ 32 }
+    requires height { sb_height < 2 ^ 32 }
+    ensures { IfOk result (λ cut. view_cut cut
+        ≡ unit_part (units_of plane.now) (sbo.0.x, sbo.0.y) (sb_width, sb_height)) }
+{
+    let rect = units_rect(plane, sbo, sb_width, sb_height);
+    Cut::take(alloc, plane.units.entries(), plane.units.cols, rect)
+}
+
+/// The parts of a frame's units that a tile of so many superblocks covers.
+pub(crate) fn cut_units(
+    alloc: Global,
+    state: &RestorationState,
+    sbo: PlaneSuperBlockOffset,
+    sb_width: usize,
+    sb_height: usize,
+) -> Result<Three<Cut<RestorationUnit>>, OutOfMemory>
+    requires y { CanCutUnits (units_of state.now.planes.y) }
+    requires u { CanCutUnits (units_of state.now.planes.u) }
+    requires v { CanCutUnits (units_of state.now.planes.v) }
+    requires width { sb_width < 2 ^ 32 }
+    requires height { sb_height < 2 ^ 32 }
+    ensures { IfOk result (λ cuts. view_units cuts
+        ≡ unit_parts (units_in state.now) (sbo.0.x, sbo.0.y) (sb_width, sb_height)) }
+{
+    Ok(Three {
+        y: cut_plane_units(alloc, &state.planes.y, sbo, sb_width, sb_height)?,
+        u: cut_plane_units(alloc, &state.planes.u, sbo, sb_width, sb_height)?,
+        v: cut_plane_units(alloc, &state.planes.v, sbo, sb_width, sb_height)?,
+    })
 }

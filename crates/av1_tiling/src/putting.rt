@@ -2,12 +2,14 @@
 ghost use Rattle.std.specs.Prelude.{◌≡◌, All, length, map};
 ghost use Rattle.std.specs.List.{AllZip};
 ghost use Rattle.av1_block.specs.Tables.{table_entries};
-ghost use Rattle.av1_tiling.specs.Views.{view_plane, view_frame, view_samples, view_cuts, view_cut};
-ghost use Rattle.av1_tiling.specs.Puts.{put, put_cuts, put_in, put_motion, tables_of, PartLies};
+ghost use Rattle.av1_tiling.specs.Views.{view_plane, view_frame, view_samples, view_cuts, view_cut, view_units};
+ghost use Rattle.av1_tiling.specs.Restoration.{units_in};
+ghost use Rattle.av1_tiling.specs.Puts.{put, put_cuts, put_in, put_motion, put_units, tables_of, PartLies};
 ghost use Rattle.av1_tiling.specs.Coded.{ViewLies, AreViewsApart, AreCoded};
 
+use crate::restoration_state::RestorationState;
 use crate::tile_context::TileContextMut;
-use av1_block::{Cut, FrameBlocks, FrameMEStats, MEStats, Table};
+use av1_block::{Cut, FrameBlocks, FrameMEStats, MEStats, RestorationUnit, Table};
 use av1_plane::{Frame, Pixel, Plane, Three};
 
 // Puts a part of a plane back into it.
@@ -58,21 +60,35 @@ pub(crate) fn put_motion(tables: &mut [FrameMEStats], cuts: &[Cut<MEStats>])
     }
 }
 
+// Puts a tile's restoration units back into the tables of the three planes.
+pub(crate) fn put_units(state: &mut RestorationState, cuts: &Three<Cut<RestorationUnit>>)
+    requires y { PartLies (length (units_in state.old).y.entries) (view_units cuts.now).y }
+    requires u { PartLies (length (units_in state.old).u.entries) (view_units cuts.now).u }
+    requires v { PartLies (length (units_in state.old).v.entries) (view_units cuts.now).v }
+    ensures { units_in state.new ≡ put_units (units_in state.old) (view_units cuts.now) }
+{
+    put_table(&mut state.planes.y.units, &cuts.y);
+    put_table(&mut state.planes.u.units, &cuts.u);
+    put_table(&mut state.planes.v.units, &cuts.v);
+}
+
 /// Puts tiles back where they were cut out: each rectangle of a frame's planes, of its tables of
-/// motion records and of its block table then has its tile's entries, and all else stays. No two
-/// tiles have a place in common.
+/// motion records, of its restoration units and of its block table then has its tile's entries, and
+/// all else stays. No two tiles have a place in common.
 pub fn put_back<T: Pixel>(
     contexts: &[TileContextMut<T>],
     rec: &mut Frame<T>,
     me: &mut [FrameMEStats],
+    units: &mut RestorationState,
     blocks: &mut FrameBlocks,
 )
-    requires lies { All (ViewLies (tables_of T.number rec.old me.old blocks.old)) contexts.now }
+    requires lies { All (ViewLies (tables_of T.number rec.old me.old units.old blocks.old))
+        contexts.now }
     requires apart { AreViewsApart contexts.now }
-    ensures { AreCoded contexts.now (tables_of T.number rec.old me.old blocks.old)
-        (tables_of T.number rec.new me.new blocks.new) }
+    ensures { AreCoded contexts.now (tables_of T.number rec.old me.old units.old blocks.old)
+        (tables_of T.number rec.new me.new units.new blocks.new) }
 {
     for context in contexts {
-        context.put_back(rec, me, blocks);
+        context.put_back(rec, me, units, blocks);
     }
 }

@@ -1,6 +1,4 @@
 //! The units of a plane.
-ghost use Rattle.std.specs.Prelude.{◌≤◌};
-
 use av1_block::{FrameRestorationUnits, RestorationUnit};
 use av1_plane::OutOfMemory;
 use std::alloc::Global;
@@ -30,7 +28,6 @@ pub struct RestorationPlaneConfig {
 pub struct RestorationPlane {
     pub cfg: RestorationPlaneConfig,
     pub units: FrameRestorationUnits,
-    pub ghost stripes: { cfg.stripe_height ≤ 64 },
 }
 
 impl RestorationPlane {
@@ -80,13 +77,24 @@ impl RestorationPlane {
         Ok(RestorationPlane { cfg, units })
     }
 
+    /// The same units, laid out alike.
+    pub fn try_clone(&self, alloc: Global) -> Result<RestorationPlane, OutOfMemory>
+        ensures { IfOk result (λ copy. units_of copy ≡ units_of self.now) }
+    {
+        Ok(RestorationPlane {
+            cfg: RestorationPlaneConfig { ..self.cfg },
+            units: self.units.try_clone(alloc)?,
+        })
+    }
+
     /// The unit of a stripe in column `rux` of the units, or in the last one.
     pub fn restoration_unit_by_stripe(&self, stripenum: usize, rux: usize) -> &RestorationUnit
         requires units { HasUnits (units_of self.now) }
         requires stripe { stripenum < 2 ^ 32 }
         ensures { result.now ≡ unit_by_stripe (units_of self.now) stripenum rux }
     {
-        let row = (stripenum * self.cfg.stripe_height / self.cfg.unit_size).min(self.cfg.rows - 1);
+        let rows = stripenum as u128 * self.cfg.stripe_height as u128;
+        let row = (rows / self.cfg.unit_size as u128).min(self.cfg.rows as u128 - 1) as usize;
         let column = rux.min(self.cfg.cols - 1);
         let units = self.units.entries();
         let place = row * self.cfg.cols + column;

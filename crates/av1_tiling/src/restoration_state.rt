@@ -41,4 +41,17 @@ impl RestorationState {
             planes: Three { y, u, v },
         })
     }
+
+    /// The same units of all planes.
+    pub fn try_clone(&self, alloc: Global) -> Result<RestorationState, OutOfMemory>
+        ensures { IfOk result (λ copy. units_in copy ≡ units_in self.now) }
+    {
+        Ok(RestorationState {
+            planes: Three {
+                y: self.planes.y.try_clone(alloc)?,
+                u: self.planes.u.try_clone(alloc)?,
+                v: self.planes.v.try_clone(alloc)?,
+            },
+        })
+    }
 }

@@ -2,20 +2,21 @@ ghost use Rattle.std.specs.Prelude.{◌≡◌, IfOk};
 ghost use Rattle.av1_plane.specs.declared.sampling.ChromaSampling.TheVariants.{Cs420};
 ghost use Rattle.av1_tiling.specs.Frames.{IsFrame, IsStateFor};
 
-use crate::{FrameInvariants, FrameState, FrameType, Sequence, TileStateMut, TilingInfo};
+use crate::{
+    FrameInvariants, FrameState, FrameType, ReferenceFramesSet, Sequence, TileStateMut, TilingInfo,
+};
 use av1_block::FrameBlocks;
 use av1_plane::{
     ChromaSampling, Frame, FrameAlloc, OutOfMemory, Plane, PlaneSuperBlockOffset, SuperBlockOffset,
 };
 use std::alloc::Global;
-use std::marker::PhantomData;
 use std::sync::Arc;
 use std::test::Fail;
 
 fn is_shared<T: Send + Sync>(_value: &T) {}
 
 // A key frame of 160 by 144 in nine tiles.
-fn nine_tiles() -> Result<FrameInvariants<u8>, Fail>
+fn nine_tiles(alloc: Global) -> Result<FrameInvariants<u8>, Fail>
     ensures frame { IfOk result (λ fi. IsFrame 256 fi) }
     ensures width { IfOk result (λ fi. fi.width ≡ 160) }
     ensures height { IfOk result (λ fi. fi.height ≡ 144) }
@@ -55,7 +56,7 @@ fn nine_tiles() -> Result<FrameInvariants<u8>, Fail>
         render_width: 160,
         render_height: 144,
         refresh_frame_flags: 0,
-        sample: PhantomData,
+        rec_buffer: ReferenceFramesSet::new(alloc)?,
     })
 }
 
@@ -81,7 +82,7 @@ fn blank_state(alloc: Global, fi: &FrameInvariants<u8>) -> Result<FrameState<u8>
 
 #[test]
 fn state_starts_blank(rt: HostRuntime) -> Result<(), Fail> {
-    let fs = blank_state(rt.alloc(), &nine_tiles()?)?;
+    let fs = blank_state(rt.alloc(), &nine_tiles(rt.alloc())?)?;
     assert_eq!(rt; fs.frame_me_stats.len(), 8);
     assert_eq!(rt; fs.max_tile_size_bytes, 0);
     assert!(rt; !fs.segmentation.enabled);
@@ -90,7 +91,7 @@ fn state_starts_blank(rt: HostRuntime) -> Result<(), Fail> {
 
 #[test]
 fn last_tile_is_cut(rt: HostRuntime) -> Result<(), Fail> {
-    let fs = blank_state(rt.alloc(), &nine_tiles()?)?;
+    let fs = blank_state(rt.alloc(), &nine_tiles(rt.alloc())?)?;
     let sbo = PlaneSuperBlockOffset(SuperBlockOffset { x: 2, y: 2 });
     let tile = TileStateMut::new(rt.alloc(), &fs, sbo, 6, 32, 16)?;
     assert_eq!(rt; (tile.sb_width, tile.sb_height), (1, 1));
@@ -106,7 +107,7 @@ fn last_tile_is_cut(rt: HostRuntime) -> Result<(), Fail> {
 #[test]
 fn cuts_nine_tiles(rt: HostRuntime) -> Result<(), Fail> {
     let alloc = rt.alloc();
-    let fi = nine_tiles()?;
+    let fi = nine_tiles(rt.alloc())?;
     let fs = blank_state(alloc, &fi)?;
     let blocks = FrameBlocks::new(alloc, 40, 36)?;
     let tiles = fi.sequence.tiling.tile_iter_mut(alloc, &fs, &blocks)?;

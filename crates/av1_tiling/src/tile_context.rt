@@ -1,5 +1,6 @@
 use crate::frame_state::FrameState;
 use crate::putting::put_table;
+use crate::restoration_state::RestorationState;
 use crate::tile_rects::{tile_blocks, tile_height, tile_superblock, tile_width};
 use crate::tile_state::TileStateMut;
 use crate::tiling_info::TilingInfo;
@@ -90,18 +91,20 @@ impl<T: Pixel> TileContextMut<T> {
     ghost use Rattle.av1_tiling.specs.Puts.{put_view, tables_of};
     ghost use Rattle.av1_tiling.specs.Coded.{ViewLies};
 
-    // Puts the tile's samples, motion records and blocks back into a frame and its tables.
+    // Puts the tile's samples, motion records, restoration units and blocks back into a frame and its
+    // tables.
     pub(crate) fn put_back(
         &self,
         rec: &mut Frame<T>,
         me: &mut [FrameMEStats],
+        units: &mut RestorationState,
         blocks: &mut FrameBlocks,
     )
-        requires { ViewLies (tables_of T.number rec.old me.old blocks.old) self.now }
-        ensures { tables_of T.number rec.new me.new blocks.new
-            ≡ put_view (tables_of T.number rec.old me.old blocks.old) self.now }
+        requires { ViewLies (tables_of T.number rec.old me.old units.old blocks.old) self.now }
+        ensures { tables_of T.number rec.new me.new units.new blocks.new
+            ≡ put_view (tables_of T.number rec.old me.old units.old blocks.old) self.now }
     {
-        self.ts.put_back(rec, me);
+        self.ts.put_back(rec, me, units);
         put_table(blocks, &self.blocks);
     }
 }

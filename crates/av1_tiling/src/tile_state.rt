@@ -1,17 +1,18 @@
 use crate::deblock_state::DeblockState;
 use crate::frame_state::FrameState;
-use crate::part::{cut_frame, cut_motion, motion_rect, samples_rect};
-use crate::putting::{put_frame, put_motion};
+use crate::part::{cut_frame, cut_motion, cut_units, motion_rect, samples_rect};
+use crate::putting::{put_frame, put_motion, put_units};
+use crate::restoration_state::RestorationState;
 use crate::segmentation_state::SegmentationState;
-use av1_block::{Cut, FrameMEStats, MEStats};
+use av1_block::{Cut, FrameMEStats, MEStats, RestorationUnit};
 use av1_plane::{Frame, OutOfMemory, Pixel, Plane, PlaneSuperBlockOffset, Three, TileRect};
 use std::alloc::Global;
 use std::marker::Model;
 use std::sync::Arc;
 
 /// What a tile is coded from, beside its blocks: its place and sides, the whole input, and the
-/// tile's parts of the reconstruction and of the motion records, which it owns until they are put
-/// back.
+/// tile's parts of the reconstruction, of the restoration units and of the motion records, which it
+/// owns until they are put back.
 #[derive(Debug, Drop)]
 pub struct TileStateMut<T: Pixel> {
     /// The tile's first superblock.
@@ -32,13 +33,14 @@ pub struct TileStateMut<T: Pixel> {
     pub deblock: DeblockState,
     pub segmentation: SegmentationState,
     rec: Three<Cut<T>>,
+    units: Three<Cut<RestorationUnit>>,
     me_stats: Vec<Cut<MEStats>>,
 }
 
 impl<T: Pixel> Model for TileStateMut<T> {
     ghost use Rattle.std.specs.Prelude.{map};
     ghost use Rattle.std.specs.Arc.{arc_value};
-    ghost use Rattle.av1_tiling.specs.Views.{TileState, view_plane, view_frame, view_cuts, view_cut};
+    ghost use Rattle.av1_tiling.specs.Views.{TileState, view_plane, view_frame, view_cuts, view_cut, view_units};
 
     ghost Value = { TileState };
 
@@ -57,6 +59,7 @@ impl<T: Pixel> Model for TileStateMut<T> {
       deblock = t.deblock;
       segmentation = t.segmentation;
       rec = view_cuts T.number t.rec;
+      units = view_units t.units;
       me_stats = map view_cut t.me_stats.items;
     } };
 }
@@ -78,6 +81,59 @@ impl<T: Pixel> TileStateMut<T> {
             0 => self.rec.y.entries_mut(),
             1 => self.rec.u.entries_mut(),
             _ => self.rec.v.entries_mut(),
+        }
+    }
+}
+
+impl<T: Pixel> TileStateMut<T> {
+    ghost use Rattle.std.specs.Prelude.{◌≡◌, ◌<◌};
+    ghost use Rattle.std.specs.Borrow.{Lends, sem, Array};
+    ghost use Rattle.av1_block.specs.contracts.restoration_unit.RestorationUnit.{the_row as unit_row};
+    ghost use Rattle.av1_tiling.specs.Views.{plane_at, with_units};
+    ghost use Rattle.av1_tiling.specs.contracts.tile_state.TileStateMut.{the_row};
+
+    /// The tile's restoration units in plane `pli`, row by row, for writing.
+    pub fn units_mut(&mut self, pli: usize) -> &mut [RestorationUnit]
+        requires { pli < 3 }
+        ensures* writes_back { sem 𝓛 (Lends (the_row T.row T.Pixel) (Array unit_row 0) self.entry
+            result (with_units self.old pli)) }
+        ensures value { result.now ≡ (plane_at self.old.units pli).entries }
+    {
+        match pli {
+            0 => self.units.y.entries_mut(),
+            1 => self.units.u.entries_mut(),
+            _ => self.units.v.entries_mut(),
+        }
+    }
+
+    /// The tile's restoration units in plane `pli`, row by row.
+    pub fn units(&self, pli: usize) -> &[RestorationUnit]
+        requires { pli < 3 }
+        ensures { result.now ≡ (plane_at self.now.units pli).entries }
+    {
+        match pli {
+            0 => self.units.y.entries(),
+            1 => self.units.u.entries(),
+            _ => self.units.v.entries(),
+        }
+    }
+}
+
+impl<T: Pixel> TileStateMut<T> {
+    ghost use Rattle.std.specs.Prelude.{◌≡◌, ◌<◌, ◌*◌, length};
+    ghost use Rattle.av1_tiling.specs.Views.{plane_at};
+
+    /// Where the tile's restoration units stand in the table of plane `pli`.
+    pub fn units_rect(&self, pli: usize) -> TileRect
+        requires { pli < 3 }
+        ensures place { result ≡ (plane_at self.now.units pli).rect }
+        ensures whole { length (plane_at self.now.units pli).entries
+            ≡ result.width * result.height }
+    {
+        match pli {
+            0 => self.units.y.rect(),
+            1 => self.units.u.rect(),
+            _ => self.units.v.rect(),
         }
     }
 }
@@ -134,12 +190,15 @@ impl<T: Pixel> TileStateMut<T> {
             made ≡ tile_state fs.now (sbo.0.x, sbo.0.y) sb_size_log2 width height) }
     {
         let rec = cut_frame(alloc, &fs.rec, samples_rect(sbo, width, height))?;
+        let sb_width = width.div_ceil(64);
+        let sb_height = height.div_ceil(64);
+        let units = cut_units(alloc, &fs.restoration, sbo, sb_width, sb_height)?;
         let me_stats = cut_motion(alloc, &fs.frame_me_stats, motion_rect(sbo, width, height))?;
         Ok(TileStateMut {
             sbo,
             sb_size_log2,
-            sb_width: width.div_ceil(64),
-            sb_height: height.div_ceil(64),
+            sb_width,
+            sb_height,
             mi_width: width / 4,
             mi_height: height / 4,
             width,
@@ -150,6 +209,7 @@ impl<T: Pixel> TileStateMut<T> {
             deblock: fs.deblock,
             segmentation: fs.segmentation,
             rec,
+            units,
             me_stats,
         })
     }
@@ -159,21 +219,32 @@ impl<T: Pixel> TileStateMut<T> {
     ghost use Rattle.std.specs.Prelude.{◌≡◌, length, map};
     ghost use Rattle.std.specs.List.{AllZip};
     ghost use Rattle.av1_tiling.specs.Views.{view_frame};
-    ghost use Rattle.av1_tiling.specs.Puts.{put_cuts, put_motion, PartLies};
+    ghost use Rattle.av1_tiling.specs.Restoration.{units_in};
+    ghost use Rattle.av1_tiling.specs.Puts.{put_cuts, put_motion, put_units, PartLies};
 
-    // Puts the tile's samples and motion records back into a frame and its tables.
-    pub(crate) fn put_back(&self, rec: &mut Frame<T>, me: &mut [FrameMEStats])
+    // Puts the tile's samples, motion records and restoration units back into a frame and its tables.
+    pub(crate) fn put_back(
+        &self,
+        rec: &mut Frame<T>,
+        me: &mut [FrameMEStats],
+        units: &mut RestorationState,
+    )
         requires y { PartLies (length (view_frame T.number rec.old).y.samples) self.now.rec.y }
         requires u { PartLies (length (view_frame T.number rec.old).u.samples) self.now.rec.u }
         requires v { PartLies (length (view_frame T.number rec.old).v.samples) self.now.rec.v }
+        requires y_units { PartLies (length (units_in units.old).y.entries) self.now.units.y }
+        requires u_units { PartLies (length (units_in units.old).u.entries) self.now.units.u }
+        requires v_units { PartLies (length (units_in units.old).v.entries) self.now.units.v }
         requires motion { AllZip (λ t part. PartLies (length t.entries) part)
             (me.old) self.now.me_stats }
         ensures rec { view_frame T.number rec.new
             ≡ put_cuts (view_frame T.number rec.old) self.now.rec }
+        ensures units { units_in units.new ≡ put_units (units_in units.old) self.now.units }
         ensures motion { me.new
             ≡ put_motion (me.old) self.now.me_stats }
     {
         put_frame(rec, &self.rec);
+        put_units(units, &self.units);
         put_motion(me, &self.me_stats);
     }
 }

@@ -26,7 +26,7 @@ ghost use Rattle.av1_tiling.specs.UnitSizes.{
 use crate::frame_invariants::FrameInvariants;
 use crate::restoration::RESTORE_SWITCHABLE;
 use crate::restoration_plane::RestorationPlane;
-use av1_plane::OutOfMemory;
+use av1_plane::{OutOfMemory, Pixel};
 use std::alloc::Global;
 
 /// The sides of luma and chroma units.
@@ -37,7 +37,7 @@ pub struct UnitSizes {
 }
 
 // The logarithm of a superblock's side.
-fn superblock_log2<T>(fi: &FrameInvariants<T>) -> usize
+fn superblock_log2<T: Pixel>(fi: &FrameInvariants<T>) -> usize
     ensures value { result ≡ superblock_log2 fi.now }
     ensures least { 6 ≤ result }
     ensures most { result ≤ 7 }
@@ -50,7 +50,7 @@ fn superblock_log2<T>(fi: &FrameInvariants<T>) -> usize
 }
 
 // A superblock's side.
-fn superblock_side<T>(fi: &FrameInvariants<T>) -> usize
+fn superblock_side<T: Pixel>(fi: &FrameInvariants<T>) -> usize
     ensures value { result ≡ 2 ^ superblock_log2 fi.now }
     ensures least { 64 ≤ result }
     ensures most { result ≤ 128 }
@@ -76,7 +76,7 @@ fn decimated(side: usize, dec: usize) -> usize
 }
 
 // How often the largest unit is halved for the quantiser.
-fn base_shift<T>(fi: &FrameInvariants<T>) -> usize
+fn base_shift<T: Pixel>(fi: &FrameInvariants<T>) -> usize
     ensures value { result ≡ base_shift fi.now }
     ensures most { result ≤ 2 }
 {
@@ -96,7 +96,7 @@ fn is_stretched_side(unit: usize, side: usize) -> bool
     (side / 2).saturating_sub(1) % unit <= unit / 2
 }
 
-fn is_stretched<T>(fi: &FrameInvariants<T>, unit: usize) -> bool
+fn is_stretched<T: Pixel>(fi: &FrameInvariants<T>, unit: usize) -> bool
     requires { 0 < unit }
     ensures { result ≡ is_stretched fi.now unit }
 {
@@ -104,7 +104,7 @@ fn is_stretched<T>(fi: &FrameInvariants<T>, unit: usize) -> bool
 }
 
 // How often a chroma unit is halved beside luma's.
-fn chroma_shift<T>(fi: &FrameInvariants<T>) -> usize
+fn chroma_shift<T: Pixel>(fi: &FrameInvariants<T>) -> usize
     ensures value { result ≡ chroma_shift fi.now }
     ensures most { result ≤ 1 }
 {
@@ -118,7 +118,7 @@ fn chroma_shift<T>(fi: &FrameInvariants<T>) -> usize
 }
 
 // The sizes by the quantiser.
-fn large_sizes<T>(fi: &FrameInvariants<T>, ydec: usize) -> UnitSizes
+fn large_sizes<T: Pixel>(fi: &FrameInvariants<T>, ydec: usize) -> UnitSizes
     requires { ydec ≡ (shifts fi.now).1 }
     ensures value { result ≡ large_sizes fi.now }
     ensures luma { result.luma ≤ 256 }
@@ -136,7 +136,7 @@ fn large_sizes<T>(fi: &FrameInvariants<T>, ydec: usize) -> UnitSizes
 }
 
 // The sizes by the superblock.
-fn small_sizes<T>(fi: &FrameInvariants<T>, ydec: usize) -> UnitSizes
+fn small_sizes<T: Pixel>(fi: &FrameInvariants<T>, ydec: usize) -> UnitSizes
     requires { ydec ≡ (shifts fi.now).1 }
     ensures value { result ≡ small_sizes fi.now }
     ensures luma { result.luma ≤ 256 }
@@ -149,7 +149,7 @@ fn small_sizes<T>(fi: &FrameInvariants<T>, ydec: usize) -> UnitSizes
     UnitSizes { luma, chroma }
 }
 
-fn wanted_sizes<T>(fi: &FrameInvariants<T>, ydec: usize) -> UnitSizes
+fn wanted_sizes<T: Pixel>(fi: &FrameInvariants<T>, ydec: usize) -> UnitSizes
     requires { ydec ≡ (shifts fi.now).1 }
     ensures value { result ≡ wanted_sizes fi.now }
     ensures luma { result.luma ≤ 256 }
@@ -179,7 +179,7 @@ fn kept_to(unit: usize, side: usize, count: usize) -> usize
     unit.min(side << zeros)
 }
 
-fn kept_in_tiles<T>(fi: &FrameInvariants<T>, xdec: usize, ydec: usize, unit: usize) -> usize
+fn kept_in_tiles<T: Pixel>(fi: &FrameInvariants<T>, xdec: usize, ydec: usize, unit: usize) -> usize
     requires xdec { xdec ≤ 1 }
     requires ydec { ydec ≤ 1 }
     requires unit { unit ≤ 256 }
@@ -194,7 +194,7 @@ fn kept_in_tiles<T>(fi: &FrameInvariants<T>, xdec: usize, ydec: usize, unit: usi
     kept_to(across, decimated(side, ydec), tiling.tile_height_sb)
 }
 
-fn tile_sizes<T>(fi: &FrameInvariants<T>, xdec: usize, ydec: usize) -> UnitSizes
+fn tile_sizes<T: Pixel>(fi: &FrameInvariants<T>, xdec: usize, ydec: usize) -> UnitSizes
     requires xdec { xdec ≤ 1 }
     requires ydec { ydec ≤ 1 }
     requires shifts { (xdec, ydec) ≡ shifts fi.now }
@@ -218,7 +218,7 @@ fn tile_sizes<T>(fi: &FrameInvariants<T>, xdec: usize, ydec: usize) -> UnitSizes
 
 /// The sizes of a frame's units, whose chroma planes have these shifts.
 #[tactic(auto, unfolding(crate::specs::UnitSizes::unit_sizes))]
-pub fn unit_sizes<T>(fi: &FrameInvariants<T>, xdec: usize, ydec: usize) -> UnitSizes
+pub fn unit_sizes<T: Pixel>(fi: &FrameInvariants<T>, xdec: usize, ydec: usize) -> UnitSizes
     requires xdec { xdec ≤ 1 }
     requires ydec { ydec ≤ 1 }
     requires shifts { (xdec, ydec) ≡ shifts fi.now }
@@ -276,7 +276,7 @@ fn visible_side(side: usize, dec: usize) -> usize
 }
 
 /// The units of a plane with these shifts, all of which leave their samples as they are.
-pub fn plane_units<T>(
+pub fn plane_units<T: Pixel>(
     alloc: Global,
     fi: &FrameInvariants<T>,
     unit: usize,

@@ -1,4 +1,4 @@
-use Rattle.std.proofs.Common.{◌≡◌, map, replicate}
+use Rattle.std.proofs.Common.{◌≡◌, replicate}
 use Rattle.av1_tiling.specs.Motion.{blank_motion}
 use Rattle.av1_tiling.proofs.frame_state.blank_motion.Given as goal
 

@@ -6,7 +6,7 @@ use Rattle.av1_tiling.proofs.putting.put_back.Given as goal
 abbrev pub invariant-loop-context : goal.invariant-loop-context
 invariant-loop-context g l = record {
   coded :
-      tables_of g.T.Pixel.number l.rec l.me l.blocks
-      ≡ coded_tables (tables_of g.T.Pixel.number l.initial.rec l.initial.me l.initial.blocks) (take l.context-index l.contexts);
-  lies : All (ViewLies (tables_of g.T.Pixel.number l.rec l.me l.blocks)) l.contexts;
+      tables_of g.T.Pixel.number l.rec l.me l.units l.blocks
+      ≡ coded_tables (tables_of g.T.Pixel.number l.initial.rec l.initial.me l.initial.units l.initial.blocks) (take l.context-index l.contexts);
+  lies : All (ViewLies (tables_of g.T.Pixel.number l.rec l.me l.units l.blocks)) l.contexts;
 }

@@ -9,5 +9,5 @@ returns g c =
     let old = c.args.self.now in
     let place : ((window old).top + c.args.y) * (table_under old).cols + (window old).left ≡ place_under old 0 c.args.y = omega arith in (
       (refl {a = c.run_mut.result.ghost_name}, λ w. same_view _ _ (λ i. record old.table { now = with_entry_run (table_under old) (place i) w }) refl),
-      record { lends = tt; row = c.run_mut.ensures.run ∙ ap (λ k. take (window old).cols (drop k (entries_under old))) place },
+      record { lends = tt; row = c.run_mut.ensures.run ∙ ap (λ k. take (window old).cols (drop k (entries_under old))) place; long = c.run_mut.ensures.long },
     )

@@ -1,4 +1,4 @@
-use Rattle.std.proofs.Common.{◌≡◌, ℕ, ap, ◌∙◌, arith}
+use Rattle.std.proofs.Common.{ℕ, ap, ◌∙◌, arith}
 use Rattle.av1_plane.specs.Planes.{layout_of}
 use Rattle.av1_tiling.specs.declared.unit_sizes.UnitSizes.{UnitSizes}
 use Rattle.av1_tiling.specs.Restoration.{blank_units}

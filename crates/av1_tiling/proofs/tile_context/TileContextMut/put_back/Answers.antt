@@ -1,4 +1,4 @@
-use Rattle.std.proofs.Common.{map, length, sym, subst}
+use Rattle.std.proofs.Common.{length, sym, subst}
 use Rattle.std.specs.List.{AllZip}
 use Rattle.av1_tiling.specs.Puts.{PartLies}
 use Rattle.av1_tiling.specs.Views.{View}

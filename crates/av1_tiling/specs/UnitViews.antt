@@ -1,0 +1,84 @@
+-- A tile's view of a plane's restoration units: which unit a superblock of the tile belongs to.
+use Rattle.std.specs.Prelude.{ℕ, ℤ, pos, negsuc, ◌+◌, ◌-◌, ◌*◌, ◌/◌, ◌%◌, ◌^◌, ◌≤◌, ◌<◌, ◌≡◌, min, ◌==◌, ◌&&◌, ◌||◌, Bool, not, nat_le, nat_lt, Option, Some, None, if◌then◌else◌, List, [], ◌∷◌}
+use Rattle.std.specs.List.{slice_index_or}
+use Rattle.av1_plane.specs.declared.offset.SuperBlockOffset.{SuperBlockOffset}
+use Rattle.av1_block.specs.declared.restoration_unit.RestorationUnit.{RestorationUnit}
+use Rattle.av1_block.specs.declared.tile_view.TileView.{TileView}
+use Rattle.av1_block.specs.RestorationUnit.{no_unit}
+use Rattle.av1_block.specs.Tables.{view_entries, view_step, view_cols, view_rows}
+use Rattle.av1_tiling.specs.declared.unit_side.UnitSide.{UnitSide}
+use Rattle.av1_tiling.specs.declared.restoration_plane.RestorationPlaneConfig.{RestorationPlaneConfig}
+
+-- the coefficients and weights that the first units of a tile are coded against
+abbrev pub wiener_start : List (List ℤ)
+wiener_start = let taps = pos 3 ∷ negsuc 6 ∷ pos 15 ∷ [] in taps ∷ taps ∷ []
+
+abbrev pub sgrproj_start : List ℤ
+sgrproj_start = negsuc 31 ∷ pos 31 ∷ []
+
+-- the logarithms of a unit's sides in superblocks are at most 8
+pub record HasShifts (cfg : RestorationPlaneConfig) : Type 0 where
+  pub across : cfg.sb_h_shift ≤ 8
+  pub down : cfg.sb_v_shift ≤ 8
+
+-- the rows of a view with so many columns, seen from above, and its columns, seen from the side
+abbrev pub across_side : RestorationPlaneConfig → ℕ → UnitSide
+across_side cfg cols = record { superblocks = cfg.sb_cols; shift = cfg.sb_h_shift; units = cols }
+
+abbrev pub down_side : RestorationPlaneConfig → ℕ → UnitSide
+down_side cfg rows = record { superblocks = cfg.sb_rows; shift = cfg.sb_v_shift; units = rows }
+
+-- superblock s, one of the frame's, lies past the units of a side: the last of them is stretched over it
+abbrev pub is_past : UnitSide → ℕ → Bool
+is_past side s = nat_lt s side.superblocks && nat_le side.units (s / 2 ^ side.shift)
+
+-- the unit that serves superblock s, whether or not the side has it
+abbrev pub serving_unit : UnitSide → ℕ → ℕ
+serving_unit side s = if is_past side s then s / 2 ^ side.shift - 1 else s / 2 ^ side.shift
+
+-- that unit where the side has it; none for a superblock past its units unless the last one may be stretched
+unfoldable pub unit_along : UnitSide → ℕ → Bool → Option ℕ
+unit_along side s stretch =
+    if is_past side s && not stretch then None
+    else if nat_lt (serving_unit side s) side.units then Some (serving_unit side s) else None
+
+-- a unit of the side that serves superblock s: the superblock's own, or the last one
+pub record Serves (side : UnitSide) (s unit : ℕ) : Type 0 where
+  pub inside : unit < side.units
+  pub nearest : unit ≡ min (s / 2 ^ side.shift) (side.units - 1)
+
+-- both where both are
+abbrev pub both : Option ℕ → Option ℕ → Option (ℕ × ℕ)
+both None y = None
+both (Some x) None = None
+both (Some x) (Some y) = Some (x, y)
+
+-- the column and row of a superblock's unit in a view with so many columns and rows
+abbrev pub unit_index : RestorationPlaneConfig → ℕ × ℕ → SuperBlockOffset → Bool → Option (ℕ × ℕ)
+unit_index cfg sides sbo stretch =
+    both (unit_along (across_side cfg sides.0) sbo.x stretch) (unit_along (down_side cfg sides.1) sbo.y stretch)
+
+-- how far apart the units of two superblocks stand
+abbrev pub index_difference : Option (ℕ × ℕ) → Option (ℕ × ℕ) → Option (ℕ × ℕ)
+index_difference None later = None
+index_difference (Some first) None = None
+index_difference (Some first) (Some later) = Some (later.0 - first.0, later.1 - first.1)
+
+-- along one side: superblock s of a tile, the frame's from `first` on, is the last of its unit or of the frame
+abbrev pub is_last_along : UnitSide → (frame_superblocks first s : ℕ) → Bool
+is_last_along side frame_superblocks first s =
+    (s % 2 ^ side.shift == 2 ^ side.shift - 1) && nat_lt (s / 2 ^ side.shift) side.units
+    || (first + s + 1 == frame_superblocks)
+
+-- the sides of a view
+abbrev pub view_sides : {E : Type 0} → TileView E → ℕ × ℕ
+view_sides v = (view_cols v, view_rows v)
+
+-- the unit at a column and row of a view
+abbrev pub unit_at : TileView RestorationUnit → ℕ × ℕ → RestorationUnit
+unit_at v place = slice_index_or (view_entries v) (place.1 * view_step v + place.0) no_unit
+
+-- along both sides it is
+abbrev pub is_last_superblock : RestorationPlaneConfig → ℕ × ℕ → (frame : ℕ × ℕ) → (first s : SuperBlockOffset) → Bool
+is_last_superblock cfg sides frame first s =
+    is_last_along (across_side cfg sides.0) frame.0 first.x s.x && is_last_along (down_side cfg sides.1) frame.1 first.y s.y

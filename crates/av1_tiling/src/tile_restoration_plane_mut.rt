@@ -1,0 +1,101 @@
+//! A tile's units of a plane, for writing.
+ghost use Rattle.std.specs.Prelude.{◌≡◌, ◌+◌, ◌≤◌, IfSome};
+ghost use Rattle.av1_block.specs.Writing.{window, table_under, lent_name, IsPlaced};
+ghost use Rattle.av1_block.specs.Windows.{frame_window};
+ghost use Rattle.av1_tiling.specs.UnitViews.{HasShifts, wiener_start, sgrproj_start, unit_index, across_side, down_side, Serves};
+
+use crate::restoration::{SGRPROJ_XQD_MID, WIENER_TAPS_MID};
+use crate::restoration_plane::{RestorationPlane, RestorationPlaneConfig};
+use crate::tile_restoration_plane::{TileRestorationPlane, across, down};
+use av1_block::{RestorationUnit, TileRestorationUnitsMut};
+use av1_plane::TileSuperBlockOffset;
+
+/// A tile's units of a plane, for reading and writing, and the filters that the first of them are
+/// coded against.
+#[derive(Debug, Drop)]
+pub struct TileRestorationPlaneMut<'a> {
+    pub rp_cfg: &'a RestorationPlaneConfig,
+    pub wiener_ref: [[i8; 3]; 2],
+    pub sgrproj_ref: [i8; 2],
+    pub units: TileRestorationUnitsMut<'a>,
+}
+
+impl<'a> TileRestorationPlaneMut<'a> {
+    /// The rectangle of `units_cols` by `units_rows` units at column `units_x` of row `units_y`.
+    pub fn new(
+        rp: &'a mut RestorationPlane,
+        units_x: usize,
+        units_y: usize,
+        units_cols: usize,
+        units_rows: usize,
+    ) -> TileRestorationPlaneMut<'a>
+        requires across { units_x + units_cols ≤ rp.old.units.cols }
+        requires down { units_y + units_rows ≤ rp.old.units.rows }
+        ensures cfg { result.rp_cfg.now ≡ rp.old.cfg }
+        ensures wiener { result.wiener_ref ≡ wiener_start }
+        ensures sgrproj { result.sgrproj_ref ≡ sgrproj_start }
+        ensures table { table_under result.units ≡ rp.old.units }
+        ensures window { window result.units ≡ frame_window units_x units_y units_cols units_rows
+            rp.old.units.cols rp.old.units.rows }
+        ensures placed { IsPlaced result.units }
+    {
+        TileRestorationPlaneMut {
+            rp_cfg: &rp.cfg,
+            wiener_ref: [WIENER_TAPS_MID; 2],
+            sgrproj_ref: SGRPROJ_XQD_MID,
+            units: TileRestorationUnitsMut::new(
+                &mut rp.units,
+                units_x,
+                units_y,
+                units_cols,
+                units_rows,
+            ),
+        }
+    }
+
+    /// The same units, for reading.
+    pub fn as_const(&self) -> TileRestorationPlane<'_>
+        requires { IsPlaced self.now.units }
+        ensures cfg { result.rp_cfg.now ≡ self.now.rp_cfg.now }
+    {
+        TileRestorationPlane {
+            rp_cfg: self.rp_cfg,
+            wiener_ref: self.wiener_ref,
+            sgrproj_ref: self.sgrproj_ref,
+            units: self.units.as_const(),
+        }
+    }
+
+    /// The column and row of the unit that a superblock of the tile belongs to, as
+    /// `TileRestorationPlane::restoration_unit_index` gives it.
+    pub fn restoration_unit_index(
+        &self,
+        sbo: TileSuperBlockOffset,
+        stretch: bool,
+    ) -> Option<(usize, usize)>
+        requires { HasShifts self.now.rp_cfg.now }
+        ensures value { result ≡ unit_index self.now.rp_cfg.now
+            ((window self.now.units).cols, (window self.now.units).rows) sbo.0 stretch }
+        ensures column { let side = across_side self.now.rp_cfg.now (window self.now.units).cols in
+            IfSome result (λ place. Serves side sbo.0.x place.0) }
+        ensures row { let side = down_side self.now.rp_cfg.now (window self.now.units).rows in
+            IfSome result (λ place. Serves side sbo.0.y place.1) }
+    {
+        let x = across(self.rp_cfg, self.units.cols()).unit_along(sbo.0.x, stretch)?;
+        let y = down(self.rp_cfg, self.units.rows()).unit_along(sbo.0.y, stretch)?;
+        Some((x, y))
+    }
+
+    /// The unit that a superblock of the tile belongs to, for writing; the last one serves the
+    /// frame's superblocks past the tile's units.
+    pub fn restoration_unit_mut(
+        &mut self,
+        sbo: TileSuperBlockOffset,
+    ) -> Option<&mut RestorationUnit>
+        requires shifts { HasShifts self.old.rp_cfg.now }
+        requires placed { IsPlaced self.old.units }
+    {
+        let (x, y) = self.restoration_unit_index(sbo, true)?;
+        Some(&mut self.units.row_mut(y)[x])
+    }
+}
