@@ -1,10 +1,9 @@
 -- The lowest level of least error, by running sums.
-use Rattle.std.proofs.Common.{◌≡◌, true, false, ℕ, ℤ, pos, suc, ◌+◌, ◌<◌, ◌≤◌, List, length, get_or, refl, sym, ◌∙◌, ap, arith, add-one, inl, inr, subst}
+use Rattle.std.proofs.Common.{◌≡◌, true, false, ℕ, ℤ, pos, ◌+◌, ◌<◌, ◌≤◌, List, get_or, refl, arith, add-one, inl, inr, subst}
 use Rattle.std.specs.Prelude.{◌+ℤ◌, ◌≤ℤ◌, ◌<ℤ◌}
 use lib.Signed.{lt_z}
 use Rattle.std.proofs.lemmas.Bool.{cases_eq}
 use Rattle.std.proofs.lemmas.Int.{ints, to_z-of_z}
-use Rattle.std.proofs.Math.IntN.{+ℤ_idr}
 use Rattle.av1_deblock.specs.Line.{sample, sum_below}
 use Rattle.av1_deblock.specs.Errors.{running, IsTally, IsLowestLeast}
 use Rattle.av1_deblock.specs.Choice.{HasSums, total, IsLowestSum}

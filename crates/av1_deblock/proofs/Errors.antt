@@ -1,13 +1,12 @@
 -- Errors of lines and of edges.
-use Rattle.std.proofs.Common.{◌≡◌, ℕ, ℤ, pos, zero, suc, ◌+◌, ◌*◌, ◌<◌, ◌≤◌, ◌^◌, List, length, arith, refl, add-one, ap}
-use Rattle.std.specs.Prelude.{◌<ℤ◌}
-use Rattle.av1_plane.specs.Numbers.{Below, InDepth}
+use Rattle.std.proofs.Common.{◌≡◌, ℕ, ℤ, suc, ◌+◌, ◌*◌, ◌<◌, ◌≤◌, ◌^◌, List, length, arith, refl, add-one, ap}
+use Rattle.av1_plane.specs.Numbers.{Below}
 use Rattle.av1_deblock.specs.declared.profile.Profile.{Profile}
 use Rattle.av1_deblock.specs.Errors.{squares, square_at, line_distance, IsProfile, profile_of, HasProfiles, marks_error, cells_error}
 use Rattle.av1_deblock.specs.Columns.{column}
 use Rattle.std.proofs.lemmas.Bool.{cases_eq}
 use Rattle.av1_deblock.specs.Thresholds.{greatest_step, IsScale, over, first_level, variance, moved_line}
-use Rattle.av1_deblock.specs.Line.{distance, before, after, flat, wide, narrow}
+use Rattle.av1_deblock.specs.Line.{distance, before, after}
 use Rattle.std.proofs.Common.{◌≢◌, inl, inr, subst, lit<, ◌-◌, max, min, Bool, if◌then◌else◌, true, false, sym, ◌∙◌, ◌/◌}
 use Rattle.av1_deblock.proofs.Thresholds.{capped, distance_by_level}
 

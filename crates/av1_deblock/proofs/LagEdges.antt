@@ -1,14 +1,13 @@
 -- The edges between the blocks of a plane are an edge set of it.
-use Rattle.std.specs.Prelude.{Option, Some, None}
-use Rattle.std.proofs.Common.{◌≡◌, ◌==◌, ℕ, ◌*◌, ◌/◌, ◌<◌, ◌≤◌, Bool, true, false, if◌then◌else◌, refl, sym, subst, arith}
+use Rattle.std.specs.Prelude.{Some, None}
+use Rattle.std.proofs.Common.{◌≡◌, ◌==◌, ℕ, ◌*◌, ◌/◌, ◌<◌, ◌≤◌, Bool, true, false, if◌then◌else◌, refl, subst, arith}
 use Rattle.std.proofs.lemmas.Bool.Decides.{nat_tests}
 use Rattle.av1_block.specs.declared.block.Block.{Block}
 use Rattle.av1_deblock.specs.declared.grid.Grid.{Grid}
 use Rattle.av1_deblock.specs.Line.{IsSize}
-use Rattle.av1_deblock.specs.Levels.{LevelRule, level_by, level_index}
-use Rattle.av1_deblock.specs.Edges.{BlockTable, EdgeFilter, place, current, previous, stands, edge_size, edge_of, filter_at, rounded_cols, rounded_rows, GridFits, IsWithin}
-use Rattle.av1_deblock.specs.Passes.{FramePlane, plane_grid, plane_cols, plane_rows, block_edges}
-use Rattle.av1_deblock.specs.Conditions.{rounded_width, rounded_height}
+use Rattle.av1_deblock.specs.Levels.{level_by, level_index}
+use Rattle.av1_deblock.specs.Edges.{BlockTable, EdgeFilter, place, current, previous, stands, edge_of, filter_at, rounded_cols, rounded_rows, GridFits, IsWithin}
+use Rattle.av1_deblock.specs.Passes.{plane_grid, plane_cols, plane_rows, block_edges}
 use Rattle.av1_deblock.specs.Laws.{EdgesInRounded}
 use Rattle.av1_deblock.proofs.EdgeFits.{stands_fits, edge_is_sound}
 use Rattle.av1_deblock.proofs.Planes.{grid_fits, grid_width, grid_height}

@@ -1,5 +1,5 @@
 -- Edges that share no sample change places, so that one walk gives the two passes.
-use Rattle.std.proofs.Common.{◌≡◌, ◌≢◌, ℕ, ℤ, pos, zero, suc, ◌+◌, ◌-◌, ◌*◌, ◌/◌, ◌<◌, ◌≤◌, Bool, true, false, nat_le, nat_lt, ◌&&◌, if◌then◌else◌, List, [], ◌∷◌, ◌++◌, length, set, get_or, All, refl, sym, ◌∙◌, ap, subst, arith, add-one, append_assoc, append-nil, inl, inr, ◌⊎◌, lit<, min}
+use Rattle.std.proofs.Common.{◌≡◌, ◌≢◌, ℕ, ℤ, pos, zero, suc, ◌+◌, ◌-◌, ◌*◌, ◌/◌, ◌<◌, ◌≤◌, Bool, true, false, nat_le, nat_lt, ◌&&◌, if◌then◌else◌, List, [], ◌∷◌, ◌++◌, set, get_or, All, refl, sym, ◌∙◌, ap, subst, arith, append_assoc, append-nil, inl, inr, ◌⊎◌}
 use Rattle.std.specs.Prelude.{Option, Some, None}
 use Rattle.std.specs.Option.{option_to_list}
 use Rattle.std.proofs.Math.Nat.{mul-le-mul_right}
@@ -15,7 +15,7 @@ use Rattle.av1_deblock.specs.Passes.{edge_place, gathered, scattered, with_line,
 use Rattle.av1_deblock.specs.Lag.{leading, following, lag_row, lag_above, lag, LagIsTwoPasses}
 use Rattle.av1_deblock.proofs.Lines.{place_vertical, place_horizontal}
 use Rattle.av1_deblock.proofs.SideBySide.{gathered_same, scattered_off}
-use Rattle.av1_deblock.proofs.EdgeLists.{with_edges-append, with_edges_one}
+use Rattle.av1_deblock.proofs.EdgeLists.{with_edges-append}
 
 -- Where edges stand.
 

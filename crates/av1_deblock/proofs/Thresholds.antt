@@ -1,7 +1,7 @@
 -- What the level changes of one line: two tests, each of which turns once.
-use Rattle.std.proofs.Common.{◌≡◌, ℕ, ℤ, pos, zero, suc, ◌+◌, ◌-◌, ◌*◌, ◌/◌, ◌<◌, ◌≤◌, ◌^◌, Bool, true, false, List, arith, refl, ap, sym, ◌∙◌, if◌then◌else◌, ◌==◌, ◌&&◌, max, min, nat_le, nat_lt, not, ◌⊎◌, inl, inr}
+use Rattle.std.proofs.Common.{◌≡◌, ℕ, ℤ, zero, suc, ◌+◌, ◌-◌, ◌*◌, ◌/◌, ◌<◌, Bool, true, false, List, arith, refl, ap, ◌∙◌, if◌then◌else◌, ◌==◌, ◌&&◌, max, min, nat_le, nat_lt, not, inl, inr}
 use Rattle.std.proofs.lemmas.Bool.Decides.{nat_tests}
-use Rattle.av1_deblock.specs.Line.{before, after, distance, p0, p1, q0, q1, all_below, step_within, steps_within, edge_within, within_limits, high_variance, flat, flat_outside, tested, narrow, wide, line_at}
+use Rattle.av1_deblock.specs.Line.{before, after, distance, all_below, step_within, steps_within, within_limits, high_variance, flat, flat_outside, tested, narrow, wide, line_at}
 use Rattle.av1_deblock.specs.Thresholds.{IsScale, over, greatest_step, edge_distance, first_level, variance, moved_line}
 use Rattle.av1_deblock.specs.Errors.{line_distance, by_level}
 

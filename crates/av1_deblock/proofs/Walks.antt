@@ -1,27 +1,26 @@
 -- Errors of edges, one after another.
-use Rattle.std.specs.Prelude.{Option, None, Some, sum_by}
-use Rattle.std.proofs.Common.{◌≡◌, ℕ, ℤ, pos, zero, suc, ◌+◌, ◌*◌, ◌<◌, ◌≤◌, ◌^◌, ◌==◌, Bool, true, false, if◌then◌else◌, List, [], ◌∷◌, ◌++◌, length, get_or, refl, sym, ◌∙◌, ap, arith, lit<, add-one}
+use Rattle.std.specs.Prelude.{Option}
+use Rattle.std.proofs.Common.{◌≡◌, ℕ, ℤ, pos, zero, suc, ◌+◌, ◌*◌, ◌<◌, ◌≤◌, Bool, true, false, List, [], ◌∷◌, ◌++◌, length, get_or, refl, sym, ◌∙◌, ap, arith, lit<}
 use Rattle.std.specs.Option.{option_to_list}
-use Rattle.std.specs.Prelude.{◌+ℤ◌, ◌-ℤ◌, ◌≤ℤ◌}
+use Rattle.std.specs.Prelude.{◌+ℤ◌}
 use Rattle.std.proofs.lemmas.List.Sums.{sum_by-append}
-use Rattle.std.proofs.lemmas.Int.{ints}
 use Rattle.std.proofs.Math.IntN.{+ℤ_idl, +ℤ_idr}
 use Rattle.av1_plane.specs.declared.region.PlaneRegion.{PlaneRegion}
-use Rattle.av1_plane.specs.Reading.{area_seen}
 use Rattle.av1_plane.specs.declared.plane.PlaneConfig.{PlaneConfig}
 use Rattle.av1_deblock.specs.declared.edge.Edge.{Edge}
 use Rattle.av1_deblock.specs.declared.grid.Grid.{Grid}
+use Rattle.av1_deblock.specs.declared.grid.BlockRows.{BlockRows}
 use Rattle.av1_deblock.specs.Line.{sample, sum_below}
 use Rattle.av1_deblock.specs.Columns.{column, HoldsLines}
 use Rattle.av1_deblock.specs.Levels.{fixed}
-use Rattle.av1_deblock.specs.Edges.{BlockTable, place, current, previous, stands, edge_size, edge_of, edge_with, edge_at, row_edges, edges_above, IsWithin, InRounded}
-use Rattle.av1_deblock.specs.Passes.{edge_place, gathered, ShowsEdge, ShowsGrid, GridBelow, EdgeBelow, is_empty, grid_of}
+use Rattle.av1_deblock.specs.Edges.{current_in, previous_in, stands_in, edge_size, edge_of, edge_in_rows, row_edges, edges_above, InRounded}
+use Rattle.av1_deblock.specs.Passes.{edge_place, gathered, ShowsEdge, ShowsGrid, is_empty, grid_of}
 use Rattle.av1_deblock.specs.Conditions.{IsDecimated, ShowsRounded}
-use Rattle.av1_deblock.specs.Errors.{Compared, line_error, edge_error, edges_error, at_level, cells_error, running, IsNear, HasAdded, IsTally}
+use Rattle.av1_deblock.specs.Errors.{Compared, line_error, edge_error, edges_error, at_level, cells_error, HasAdded, IsTally}
 use Rattle.av1_deblock.proofs.SideBySide.{column_gathered}
-use Rattle.av1_deblock.proofs.EdgeLists.{edge_below, row_edges_none, row_edges_more, edges_none, edges_more}
+use Rattle.av1_deblock.proofs.EdgeLists.{edge_below, edge_stands, edge_missing, row_edges_none, row_edges_more, edges_none, edges_more}
 use Rattle.av1_deblock.proofs.Planes.{grid_width, grid_height, grid_fits, grid_blocks}
-use Rattle.av1_deblock.proofs.Tallies.{added_none, added_more, added_as, near_wider}
+use Rattle.av1_deblock.proofs.Tallies.{added_none, added_more, added_as}
 
 -- the places of an edge don't depend on its level
 place_same : (o s : ℕ) (e : Edge) (level k j : ℕ) → edge_place o s e k j ≡ edge_place o s (at_level e level) k j
@@ -48,31 +47,6 @@ cells_are_edge c e cells source level h k =
       line_same c.source_step c.source source e level 3 (lit< tt) k,
     ) refl
 
--- an edge at another level stands where it stands
-
--- an edge at another level
-some_between : (vertical : Bool) (u v size level : ℕ) (e : Edge) (a b : Bool) → edge_with vertical u v (if a then None else if b then Some (record { size = size; level = 0 }) else None) ≡ Some e → edge_with vertical u v (if a then None else if b then Some (record { size = size; level = level }) else None) ≡ Some (at_level e level)
-some_between vertical u v size level e true b h = absurd (cc)
-some_between vertical u v size level e false true h =
-    let same : edge_of vertical u v (record { size = size; level = 0 }) ≡ e = cc in ap (λ x. Some (at_level x level)) same
-some_between vertical u v size level e false false h = absurd (cc)
-
--- no edge at another level
-none_between : (vertical : Bool) (u v size level : ℕ) (a b : Bool) → edge_with vertical u v (if a then None else if b then Some (record { size = size; level = 0 }) else None) ≡ None → edge_with vertical u v (if a then None else if b then Some (record { size = size; level = level }) else None) ≡ None
-none_between vertical u v size level true b h = refl
-none_between vertical u v size level false true h = absurd (cc)
-none_between vertical u v size level false false h = refl
-
--- the edge of a place at another level
-some_at : (g : Grid) (t : BlockTable) (u v level : ℕ) (e : Edge) → edge_at g (fixed 0) t u v ≡ Some e → edge_at g (fixed level) t u v ≡ Some (at_level e level)
-unfolding edge_at
-some_at g t u v level e h = some_between g.vertical u v (edge_size g (current g t u v) (previous g t u v)) level e (place g u v == 0) (stands g u v (current g t u v) (previous g t u v)) h
-
--- no edge stands there at another level
-none_at : (g : Grid) (t : BlockTable) (u v level : ℕ) → edge_at g (fixed 0) t u v ≡ None → edge_at g (fixed level) t u v ≡ None
-unfolding edge_at
-none_at g t u v level h = none_between g.vertical u v (edge_size g (current g t u v) (previous g t u v)) level (place g u v == 0) (stands g u v (current g t u v) (previous g t u v)) h
-
 -- no edge has no error
 edges_error_none : (c : Compared) → edges_error c [] ≡ 0
 unfolding edges_error
@@ -89,14 +63,14 @@ unfolding edges_error
 edges_error-append c es fs = sum_by-append (edge_error c) es fs
 
 -- the error of a place with an edge
-pub some_error : (c : Compared) (g : Grid) (t : BlockTable) (u v level : ℕ) (e : Edge) → edge_at g (fixed 0) t u v ≡ Some e →
-    edge_error c (at_level e level) ≡ edges_error c (option_to_list (edge_at g (fixed level) t u v))
-some_error c g t u v level e h = rw (some_at g t u v level e h) (sym (edges_error_one c (at_level e level)))
+pub some_error : (c : Compared) (g : Grid) (r : BlockRows) (u v size level : ℕ) → stands_in g r u v ≡ true → size ≡ edge_size g (current_in g r u) (previous_in g r u) →
+    edge_error c (edge_of g.vertical u v (record { size = size; level = level })) ≡ edges_error c (option_to_list (edge_in_rows g (fixed level) r u v))
+some_error c g r u v size level h e = rw (e, edge_stands g (fixed level) r u v h) (sym (edges_error_one c _))
 
 -- the error of a place without
-pub none_error : (c : Compared) (g : Grid) (t : BlockTable) (u v level : ℕ) → edge_at g (fixed 0) t u v ≡ None →
-    0 ≡ edges_error c (option_to_list (edge_at g (fixed level) t u v))
-none_error c g t u v level h = rw (none_at g t u v level h) (sym (edges_error_none c))
+pub none_error : (c : Compared) (g : Grid) (r : BlockRows) (u v level : ℕ) → stands_in g r u v ≡ false →
+    0 ≡ edges_error c (option_to_list (edge_in_rows g (fixed level) r u v))
+none_error c g r u v level h = rw (edge_missing g (fixed level) r u v h) (sym (edges_error_none c))
 
 -- rows, from the left and from the top, of the edges that stand at each level
 

@@ -1,5 +1,5 @@
 -- Levels of least error.
-use Rattle.std.specs.Prelude.{ℕ, ℤ, pos, ◌<◌, ◌≤◌, ◌+◌, ◌≡◌, Bool, true, false, List, [], ◌∷◌, length, ◌+ℤ◌, ◌≤ℤ◌, ◌<ℤ◌}
+use Rattle.std.specs.Prelude.{ℕ, ℤ, pos, ◌<◌, ◌+◌, ◌≡◌, Bool, true, false, List, [], ◌∷◌, length, ◌+ℤ◌, ◌≤ℤ◌, ◌<ℤ◌}
 use Rattle.std.specs.List.{slice_index_or}
 use Rattle.av1_plane.specs.declared.region.PlaneRegion.{PlaneRegion}
 use Rattle.av1_plane.specs.declared.three.Three.{Three}

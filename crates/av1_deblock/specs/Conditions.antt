@@ -18,7 +18,7 @@ pub record IsDecimated (pli : ℕ) (cfg : PlaneConfig) : Type 0 where
   pub luma_y : pli ≡ 0 → cfg.ydec ≡ 0
 
 -- the sides of a frame
-pub record IsFrame (crop_w crop_h : ℕ) : Type 0 where
+pub record AreCropSides (crop_w crop_h : ℕ) : Type 0 where
   pub wide : crop_w ≤ 65536
   pub high : crop_h ≤ 65536
 

@@ -1,5 +1,5 @@
 -- How far a plane is from its source where each of its edges is filtered alone, all at one level.
-use Rattle.std.specs.Prelude.{ℕ, zero, suc, ℤ, pos, ◌+◌, ◌-◌, ◌*◌, ◌/◌, ◌^◌, ◌<◌, ◌≤◌, ◌≡◌, Bool, nat_le, ◌==◌, if◌then◌else◌, List, length, sum_by, slice_set, ◌+ℤ◌, ◌-ℤ◌, ◌≤ℤ◌}
+use Rattle.std.specs.Prelude.{ℕ, zero, suc, ℤ, pos, ◌+◌, ◌-◌, ◌*◌, ◌/◌, ◌<◌, ◌≤◌, ◌≡◌, Bool, nat_le, ◌==◌, if◌then◌else◌, List, length, sum_by, slice_set, ◌+ℤ◌, ◌-ℤ◌, ◌≤ℤ◌}
 use Rattle.std.specs.List.{slice_index_or}
 use Rattle.av1_deblock.specs.declared.edge.Edge.{Edge}
 use Rattle.av1_deblock.specs.declared.profile.Profile.{Profile}

@@ -1,10 +1,10 @@
 -- The edges of a plane in one walk: the horizontal edges follow the vertical ones, one row and two
 -- columns behind.
-use Rattle.std.specs.Prelude.{ℕ, zero, suc, ℤ, ◌≡◌, ◌≢◌, ◌+◌, ◌-◌, ◌*◌, ◌/◌, ◌<◌, ◌≤◌, nat_le, nat_lt, ◌&&◌, Bool, true, false, if◌then◌else◌, List, [], ◌++◌, Option, Some}
+use Rattle.std.specs.Prelude.{ℕ, zero, suc, ℤ, ◌≡◌, ◌+◌, ◌-◌, ◌≤◌, nat_le, nat_lt, ◌&&◌, true, false, if◌then◌else◌, List, [], ◌++◌, Option}
 use Rattle.std.specs.Option.{option_to_list}
 use Rattle.av1_deblock.specs.declared.edge.Edge.{Edge}
 use Rattle.av1_deblock.specs.Edges.{EdgeSet, edge_in, IsEdgeSet}
-use Rattle.av1_deblock.specs.Passes.{edge_place, Raster, filtered, passed}
+use Rattle.av1_deblock.specs.Passes.{Raster, filtered, passed}
 
 -- what the walk does at column u of row v: the vertical edge there, and the horizontal one of two columns
 -- before in the row above. It goes two columns and one row past the plane.

@@ -1,8 +1,9 @@
 ghost use Rattle.std.specs.Prelude.{◌≡◌, ◌+◌, ◌*◌, ◌<◌, ◌≤◌, ◌^◌, ◌≤ℤ◌, ◌+ℤ◌, ℕ, ℤ, pos, length, true, false, [], ◌∷◌};
-ghost use Rattle.av1_deblock.specs.Line.{IsDepth, sample, sum_below};
+ghost use Rattle.av1_plane.specs.Numbers.{IsDepth};
+ghost use Rattle.av1_deblock.specs.Line.{sample, sum_below};
 ghost use Rattle.av1_deblock.specs.Edges.{blocks_in};
 ghost use Rattle.av1_deblock.specs.Frames.{frame_shape};
-ghost use Rattle.av1_deblock.specs.Conditions.{IsFrame, CoversBlocks};
+ghost use Rattle.av1_deblock.specs.Conditions.{AreCropSides, CoversBlocks};
 ghost use Rattle.av1_deblock.specs.Errors.{running, IsTally, IsLowestLeast};
 ghost use Rattle.av1_deblock.specs.Choice.{error_at, error_of_both, measured_plane, measured_frame, CanTally, HasSums, IsLowestSum, AreBest, AreLevels};
 
@@ -91,7 +92,7 @@ fn luma_levels<T: Pixel>(
 ) -> (u8, u8)
     requires plane { CanTally T.number (frame_shape crop_w crop_h bd) 0 rec.now src.now }
     requires blocks { CoversBlocks crop_w crop_h blocks.now }
-    requires sides { IsFrame crop_w crop_h }
+    requires sides { AreCropSides crop_w crop_h }
     requires depth { IsDepth bd }
     ensures vertical { IsLowestLeast (error_at (blocks_in blocks.now)
         (measured_plane T.number (frame_shape crop_w crop_h bd) 0 rec.now src.now) true) 64
@@ -119,7 +120,7 @@ fn chroma_level<T: Pixel>(
 ) -> u8
     requires plane { CanTally T.number (frame_shape crop_w crop_h bd) pli rec.now src.now }
     requires blocks { CoversBlocks crop_w crop_h blocks.now }
-    requires sides { IsFrame crop_w crop_h }
+    requires sides { AreCropSides crop_w crop_h }
     requires depth { IsDepth bd }
     ensures { IsLowestLeast (error_of_both (blocks_in blocks.now)
         (measured_plane T.number (frame_shape crop_w crop_h bd) pli rec.now src.now)) 64 result }
@@ -143,7 +144,7 @@ fn best_levels<T: Pixel>(
     requires v { CanTally T.number (frame_shape crop_w crop_h bd) 2 rec.now.planes.v
         input.now.planes.v }
     requires blocks { CoversBlocks crop_w crop_h blocks.now }
-    requires sides { IsFrame crop_w crop_h }
+    requires sides { AreCropSides crop_w crop_h }
     requires depth { IsDepth bd }
     ensures { AreBest (blocks_in blocks.now)
         (measured_frame T.number (frame_shape crop_w crop_h bd) rec.now input.now) result }
@@ -194,7 +195,7 @@ pub fn deblock_filter_optimize<T: Pixel, U: Pixel>(
     requires v { CanTally U.number (frame_shape crop_w crop_h fi.now.sequence.bit_depth) 2
         rec.now.planes.v input.now.planes.v }
     requires blocks { CoversBlocks crop_w crop_h blocks.now }
-    requires sides { IsFrame crop_w crop_h }
+    requires sides { AreCropSides crop_w crop_h }
     requires depth { IsDepth fi.now.sequence.bit_depth }
     ensures { AreLevels fi.now (blocks_in blocks.now)
         (measured_frame U.number (frame_shape crop_w crop_h fi.now.sequence.bit_depth) rec.now

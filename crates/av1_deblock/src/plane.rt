@@ -1,13 +1,13 @@
 ghost use Rattle.std.specs.Prelude.{◌≡◌, ◌==◌, ◌+◌, ◌*◌, ◌/◌, ◌<◌, ◌≤◌, ◌^◌, true, false};
 ghost use Rattle.av1_plane.specs.Region.{numbers_under, first_place, row_step, IsSamePart};
-ghost use Rattle.av1_deblock.specs.Line.{IsDepth};
+ghost use Rattle.av1_plane.specs.Numbers.{IsDepth};
 ghost use Rattle.av1_deblock.specs.Levels.{by_state, level_index, IsLevelled};
 ghost use Rattle.av1_deblock.specs.Edges.{blocks_in};
 ghost use Rattle.av1_deblock.specs.Passes.{is_halved, units, grid_of, frame_plane, raster_under, filtered, block_edges, plane_cols, plane_rows, plane_edges, passed, has_level, is_empty, deblocked_plane};
-ghost use Rattle.av1_deblock.specs.Conditions.{IsDecimated, IsFrame, CoversPlane, CoversBlocks, HasDepth};
+ghost use Rattle.av1_deblock.specs.Conditions.{IsDecimated, AreCropSides, CoversPlane, CoversBlocks, HasDepth};
 
 use crate::grid::Grid;
-use crate::pass::filter_edges;
+use crate::pass::{Pass, filter_edges};
 use av1_block::TileBlocks;
 use av1_plane::{Pixel, PlaneConfig, PlaneRegionMut};
 use av1_tiling::DeblockState;
@@ -27,7 +27,7 @@ fn has_half(pli: usize, dec: usize) -> bool
 }
 
 pub fn grid_in(pli: usize, cfg: &PlaneConfig, vertical: bool, crop_w: usize, crop_h: usize) -> Grid
-    requires sides { IsFrame crop_w crop_h }
+    requires sides { AreCropSides crop_w crop_h }
     ensures { result ≡ grid_of pli cfg.now vertical crop_w crop_h }
 {
     let half_x = has_half(pli, cfg.xdec);
@@ -88,7 +88,7 @@ fn filter_direction<T: Pixel>(
     requires levels { IsLevelled deblock.now }
     requires region { CoversPlane crop_w crop_h p.old }
     requires blocks { CoversBlocks crop_w crop_h blocks.now }
-    requires sides { IsFrame crop_w crop_h }
+    requires sides { AreCropSides crop_w crop_h }
     requires depth { IsDepth bd }
     requires limit { 2 ^ bd ≤ T.limit }
     requires range { HasDepth bd crop_w crop_h T.number p.old }
@@ -99,9 +99,15 @@ fn filter_direction<T: Pixel>(
         (blocks_in blocks.now) vertical) }
     ensures range { HasDepth bd crop_w crop_h T.number p.new }
 {
-    let g = grid_in(pli, &p.plane_cfg, vertical, crop_w, crop_h);
-    let i = level_index_of(pli, vertical);
-    filter_edges(p, g, deblock, i, blocks, bd);
+    let grid = grid_in(pli, &p.plane_cfg, vertical, crop_w, crop_h);
+    let level_index = level_index_of(pli, vertical);
+    let pass = Pass {
+        grid,
+        deblock,
+        level_index,
+        depth: bd,
+    };
+    filter_edges(p, &pass, blocks);
 }
 
 #[tactic(auto, using(crate::proofs::Planes::passes))]
@@ -120,7 +126,7 @@ fn filter_plane<T: Pixel>(
     requires levels { IsLevelled deblock.now }
     requires region { CoversPlane crop_w crop_h p.old }
     requires blocks { CoversBlocks crop_w crop_h blocks.now }
-    requires sides { IsFrame crop_w crop_h }
+    requires sides { AreCropSides crop_w crop_h }
     requires depth { IsDepth bd }
     requires limit { 2 ^ bd ≤ T.limit }
     requires range { HasDepth bd crop_w crop_h T.number p.old }
@@ -154,7 +160,7 @@ pub fn deblock_plane<T: Pixel>(
     requires levels { IsLevelled deblock.now }
     requires region { CoversPlane crop_w crop_h p.old }
     requires blocks { CoversBlocks crop_w crop_h blocks.now }
-    requires sides { IsFrame crop_w crop_h }
+    requires sides { AreCropSides crop_w crop_h }
     requires depth { IsDepth bd }
     requires limit { 2 ^ bd ≤ T.limit }
     requires range { HasDepth bd crop_w crop_h T.number p.old }

@@ -2,17 +2,18 @@ ghost use Rattle.std.specs.Prelude.{◌≡◌, ◌+◌, ◌*◌, ◌<◌, ◌≤
 ghost use Rattle.av1_plane.specs.Numbers.{Below};
 ghost use Rattle.av1_plane.specs.Region.{spot};
 ghost use Rattle.av1_plane.specs.Reading.{area_seen, step_seen, numbers_seen};
-ghost use Rattle.av1_deblock.specs.Runs.{placed};
+ghost use Rattle.av1_plane.specs.Runs.{placed};
 ghost use Rattle.av1_deblock.specs.Columns.{HoldsLines};
 ghost use Rattle.av1_deblock.specs.Passes.{EdgeBelow, ShowsEdge};
 
 use crate::columns::put_column;
 use crate::edge::Edge;
+use crate::sample::put_four;
 use av1_plane::{Pixel, PlaneRegion};
 
 // Reads `n` numbers of row `y` from column `x` on, into the entries from `at` on.
 #[inline(always)]
-#[tactic(auto, using(crate::proofs::Runs::runs))]
+#[tactic(auto, using(av1_plane::proofs::Runs::runs))]
 fn read_run<T: Pixel>(
     p: &PlaneRegion<'_, T>,
     x: usize,
@@ -33,6 +34,20 @@ fn read_run<T: Pixel>(
     }
 }
 
+// Reads four numbers at once.
+#[inline(always)]
+fn read_four<T: Pixel>(p: &PlaneRegion<'_, T>, x: usize, y: usize, to: &mut [i32], at: usize)
+    requires x { x + 4 ≤ (area_seen p.now).width }
+    requires y { y < (area_seen p.now).height }
+    requires at { at + 4 ≤ length to.old }
+    ensures { to.new
+        ≡ placed to.old at (numbers_seen T.number p.now) (spot 0 (step_seen p.now) x y) 4 }
+{
+    let mut four = [0; 4];
+    read_run(p, x, y, &mut four, 0, 4);
+    put_four(to, at, &four);
+}
+
 // Reads the four lines of a horizontal edge, row by row.
 #[inline(always)]
 #[tactic(auto, using(crate::proofs::SideBySide::gathers))]
@@ -46,7 +61,7 @@ fn gather_columns<T: Pixel>(p: &PlaneRegion<'_, T>, edge: Edge, cells: &mut [i32
     // A row lies in the region, so it has a number.
     let _rows = p.rect().height;
     for j in 0..edge.size {
-        read_run(p, edge.x, edge.y + j, cells, 4 * j, 4);
+        read_four(p, edge.x, edge.y + j, cells, 4 * j);
     }
 }
 

@@ -1,6 +1,6 @@
 ghost use Rattle.std.specs.Prelude.{◌≡◌, ◌≢◌, ◌+◌, ◌-◌, ◌*◌, ◌/◌, ◌<◌, ◌≤◌, ◌^◌, ℕ, pos, ◌≤ℤ◌, ◌-ℤ◌, length, true, false};
-ghost use Rattle.av1_plane.specs.Numbers.{Below, InDepth};
-ghost use Rattle.av1_deblock.specs.Line.{IsSize, IsDepth};
+ghost use Rattle.av1_plane.specs.Numbers.{Below, InDepth, IsDepth};
+ghost use Rattle.av1_deblock.specs.Line.{IsSize};
 ghost use Rattle.av1_deblock.specs.Columns.{column};
 ghost use Rattle.av1_deblock.specs.Thresholds.{IsScale};
 ghost use Rattle.av1_deblock.specs.Errors.{HasLimits, IsProfile, profile_of, profile_error, marks_error, cells_error, HasProfiles, raised, IsNear, HasAdded};

@@ -1,17 +1,18 @@
 ghost use Rattle.std.specs.Prelude.{◌≡◌, ◌+◌, ◌*◌, ◌<◌, ◌≤◌, ◌^◌, ℕ, pos, length, true, false};
 ghost use Rattle.std.specs.Option.{option_to_list};
 ghost use Rattle.av1_plane.specs.Reading.{step_seen, numbers_seen};
-ghost use Rattle.av1_deblock.specs.Line.{IsSize, IsDepth, sample};
+ghost use Rattle.av1_plane.specs.Numbers.{IsDepth};
+ghost use Rattle.av1_deblock.specs.Line.{IsSize, sample};
 ghost use Rattle.av1_deblock.specs.Levels.{fixed};
-ghost use Rattle.av1_deblock.specs.Edges.{blocks_in, edge_at, row_edges, edges_above, GridFits, HasBlocks, IsSound};
+ghost use Rattle.av1_deblock.specs.Edges.{blocks_in, edge_in_rows, edge_at, row_edges, edges_above, GridFits, HasBlocks, HasRows, IsSound};
 ghost use Rattle.av1_deblock.specs.Passes.{EdgeBelow, GridBelow, ShowsEdge, ShowsGrid, is_empty};
-ghost use Rattle.av1_deblock.specs.Conditions.{IsFrame, CoversBlocks};
+ghost use Rattle.av1_deblock.specs.Conditions.{AreCropSides, CoversBlocks};
 ghost use Rattle.av1_deblock.specs.Frames.{frame_shape};
 ghost use Rattle.av1_deblock.specs.Choice.{error_at, measured_plane, CanTally};
 ghost use Rattle.av1_deblock.specs.Errors.{compared, edge_error, edges_error, at_level, IsNear, HasAdded, IsTally};
 
 use crate::edge::Edge;
-use crate::grid::{Grid, find_bare_edge};
+use crate::grid::{BlockRows, Grid, block_rows, is_edge, standing_edge};
 use crate::plane::{grid_in, has_no_sample};
 use crate::seen::gather;
 use crate::tally::add_cells;
@@ -122,13 +123,14 @@ fn add_edge<T: Pixel>(
 }
 
 // That of the edge at one place, where there is one.
+#[inline(always)]
 #[tactic(auto, using(crate::proofs::Walks::places))]
 fn add_place<T: Pixel>(
     entries: &mut [i64],
     rec: &PlaneRegion<'_, T>,
     src: &PlaneRegion<'_, T>,
     g: Grid,
-    blocks: &TileBlocks<'_>,
+    rows: &BlockRows<'_>,
     bd: usize,
     u: usize,
     v: usize,
@@ -136,7 +138,7 @@ fn add_place<T: Pixel>(
     requires grid { GridFits g }
     requires rec { ShowsGrid rec.now g }
     requires src { ShowsGrid src.now g }
-    requires blocks { HasBlocks g blocks.now }
+    requires rows { HasRows g rows.now }
     requires depth { IsDepth bd }
     requires rec_range { GridBelow (2 ^ bd) 0 (step_seen rec.now) g
         (numbers_seen T.number rec.now) }
@@ -147,16 +149,46 @@ fn add_place<T: Pixel>(
     requires long { length entries.old ≡ 65 }
     requires near { IsNear 2305843009213693952 entries.old }
     ensures { HasAdded 4294967296 (λ level. edges_error (compared bd T.number rec.now src.now)
-        (option_to_list (edge_at g (fixed level) (blocks_in blocks.now) u v))) entries.old
-        entries.new }
+        (option_to_list (edge_in_rows g (fixed level) rows.now u v))) entries.old entries.new }
 {
-    match find_bare_edge::<T>(g, blocks, u, v) {
-        Some(edge) => add_edge(entries, rec, src, edge, bd),
-        None => {}
+    if is_edge(g, rows, u, v) {
+        add_edge(entries, rec, src, standing_edge(g, rows, u, v, 0), bd);
+    }
+}
+
+// Those between two rows of blocks, from the left.
+#[inline(always)]
+fn add_between<T: Pixel>(
+    entries: &mut [i64],
+    rec: &PlaneRegion<'_, T>,
+    src: &PlaneRegion<'_, T>,
+    g: Grid,
+    rows: &BlockRows<'_>,
+    bd: usize,
+    v: usize,
+)
+    requires grid { GridFits g }
+    requires rec { ShowsGrid rec.now g }
+    requires src { ShowsGrid src.now g }
+    requires rows { HasRows g rows.now }
+    requires depth { IsDepth bd }
+    requires rec_range { GridBelow (2 ^ bd) 0 (step_seen rec.now) g
+        (numbers_seen T.number rec.now) }
+    requires src_range { GridBelow (2 ^ bd) 0 (step_seen src.now) g
+        (numbers_seen T.number src.now) }
+    requires v { v < g.rows }
+    requires long { length entries.old ≡ 65 }
+    requires near { IsNear 1729382256910270464 entries.old }
+    ensures { HasAdded 70368744177664 (λ level. edges_error (compared bd T.number rec.now src.now)
+        (row_edges (edge_in_rows g (fixed level) rows.now) v g.cols)) entries.old entries.new }
+{
+    for u in 0..g.cols {
+        add_place(entries, rec, src, g, rows, bd, u, v);
     }
 }
 
 // Those of one row, from the left.
+#[inline(always)]
 fn add_row<T: Pixel>(
     entries: &mut [i64],
     rec: &PlaneRegion<'_, T>,
@@ -182,9 +214,8 @@ fn add_row<T: Pixel>(
         (row_edges (edge_at g (fixed level) (blocks_in blocks.now)) v g.cols)) entries.old
         entries.new }
 {
-    for u in 0..g.cols {
-        add_place(entries, rec, src, g, blocks, bd, u, v);
-    }
+    let rows = block_rows(g, blocks, v);
+    add_between(entries, rec, src, g, &rows, bd, v);
 }
 
 // Those of all edges of one direction.
@@ -243,7 +274,7 @@ fn tally_direction<T: Pixel>(
 )
     requires plane { CanTally T.number (frame_shape crop_w crop_h bd) pli rec.now src.now }
     requires blocks { CoversBlocks crop_w crop_h blocks.now }
-    requires sides { IsFrame crop_w crop_h }
+    requires sides { AreCropSides crop_w crop_h }
     requires depth { IsDepth bd }
     requires long { length entries.old ≡ 65 }
     ensures { IsTally
@@ -272,7 +303,7 @@ pub fn tally_plane<T: Pixel>(
 ) -> ([i64; 65], [i64; 65])
     requires plane { CanTally T.number (frame_shape crop_w crop_h bd) pli rec.now src.now }
     requires blocks { CoversBlocks crop_w crop_h blocks.now }
-    requires sides { IsFrame crop_w crop_h }
+    requires sides { AreCropSides crop_w crop_h }
     requires depth { IsDepth bd }
     ensures vertical { IsTally
         (error_at (blocks_in blocks.now)

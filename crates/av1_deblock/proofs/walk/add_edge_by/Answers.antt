@@ -1,5 +1,5 @@
-use Rattle.std.proofs.Common.{◌≡◌, ◌<◌, ◌≤◌, ◌*◌, ℕ, List, ℤ, subst, sym, arith}
-use Rattle.av1_deblock.specs.Errors.{compared, cells_error, HasAdded}
+use Rattle.std.proofs.Common.{arith}
+use Rattle.av1_deblock.specs.Errors.{compared}
 use Rattle.av1_deblock.proofs.Tallies.{added_as}
 use Rattle.av1_deblock.proofs.Walks.{cells_are_edge}
 use Rattle.av1_deblock.proofs.walk.add_edge_by.Goals as goal

@@ -1,8 +1,6 @@
-use Rattle.std.proofs.Common.{◌*◌, ◌<◌, ◌≡◌, ℕ, refl, arith}
 use Rattle.av1_deblock.specs.Levels.{fixed}
 use Rattle.av1_deblock.specs.Edges.{blocks_in, edge_at}
 use Rattle.av1_deblock.specs.Errors.{compared}
-use Rattle.av1_deblock.proofs.Tallies.{added_as}
 use Rattle.av1_deblock.proofs.Walks.{rows_none, rows_more}
 use Rattle.av1_deblock.proofs.walk.add_edges.Goals as goal
 

@@ -1,11 +1,13 @@
+use Rattle.std.proofs.Common.{ap, arith}
 use Rattle.av1_deblock.specs.Levels.{fixed}
-use Rattle.av1_deblock.specs.Edges.{blocks_in, edge_at}
-use Rattle.av1_deblock.specs.Errors.{compared}
-use Rattle.av1_deblock.proofs.Walks.{row_none, row_more}
+use Rattle.av1_deblock.specs.Edges.{blocks_in}
+use Rattle.av1_deblock.specs.Errors.{compared, edges_error}
+use Rattle.av1_deblock.proofs.EdgeLists.{rows_of_table}
+use Rattle.av1_deblock.proofs.Tallies.{added_as}
 use Rattle.av1_deblock.proofs.walk.add_row.Goals as goal
 
-pub loop-u-init : goal.loop-u-init
-loop-u-init g c = row_none (compared c.args.bd g.T.Pixel.number c.args.rec.now c.args.src.now) (λ level. edge_at c.args.g (fixed level) (blocks_in c.args.blocks.now)) c.args.v c.args.entries.now
-
-pub loop-u-preserved : goal.loop-u-preserved
-loop-u-preserved g c = row_more (compared c.args.bd g.T.Pixel.number c.args.rec.now c.args.src.now) (λ level. edge_at c.args.g (fixed level) (blocks_in c.args.blocks.now)) c.args.v c.loop-u.u _ _ _ c.loop-u.invariant c.add_place.ensures
+pub returns : goal.returns
+returns g c =
+    added_as 70368744177664 70368744177664 _ _ _ _ (omega arith)
+    (λ l h. ap (edges_error (compared c.args.bd g.T.Pixel.number c.args.rec.now c.args.src.now)) (rows_of_table c.args.g (fixed l) (blocks_in c.args.blocks.now) _ c.args.v c.block_rows-rows.ensures.same))
+    c.add_between.ensures

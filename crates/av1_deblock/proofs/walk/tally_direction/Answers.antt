@@ -1,8 +1,6 @@
-use Rattle.std.proofs.Common.{◌≡◌, ◌<◌, ◌≤◌, ◌^◌, ℕ, refl, sym, ◌∙◌, arith, true, false}
-use Rattle.av1_plane.specs.Reading.{step_seen, numbers_seen}
+use Rattle.std.proofs.Common.{◌≡◌, refl, sym, ◌∙◌, arith, true, false}
 use Rattle.av1_deblock.specs.Edges.{edge_at}
 use Rattle.av1_deblock.specs.Passes.{is_empty}
-use Rattle.av1_deblock.specs.Errors.{plane_error, HasAdded}
 use Rattle.av1_deblock.proofs.Planes.{depth_in_grid}
 use Rattle.av1_deblock.proofs.Tallies.{added_as}
 use Rattle.av1_deblock.proofs.Walks.{tally_none, tally_of}

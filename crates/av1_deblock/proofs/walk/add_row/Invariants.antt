@@ -1,8 +1,0 @@
-use Rattle.std.proofs.Common.{◌*◌}
-use Rattle.av1_deblock.specs.Levels.{fixed}
-use Rattle.av1_deblock.specs.Edges.{blocks_in, edge_at, row_edges}
-use Rattle.av1_deblock.specs.Errors.{HasAdded, compared, edges_error}
-use Rattle.av1_deblock.proofs.walk.add_row.Given as goal
-
-abbrev pub invariant-loop-u : goal.invariant-loop-u
-invariant-loop-u g l = HasAdded (4294967296 * l.u) (λ level. edges_error (compared l.bd g.T.Pixel.number l.rec l.src) (row_edges (edge_at l.g (fixed level) (blocks_in l.blocks)) l.v l.u)) l.initial.entries l.entries
