@@ -1,5 +1,5 @@
 -- Directions of parts.
-use Rattle.std.proofs.Common.{◌≡◌, ◌≢◌, ℕ, pos, ◌+◌, ◌*◌, ◌^◌, ◌<◌, ◌≤◌, List, [], ◌∷◌, ◌++◌, length, length-append, get_or, set, length-set, subst, refl, sym, ◌∙◌, ap, arith, inl, inr, ◌⊎◌, Bool, true, false, eq-eqb}
+use Rattle.std.proofs.Common.{◌≡◌, ◌≢◌, ℕ, pos, ◌+◌, ◌*◌, ◌^◌, ◌<◌, ◌≤◌, List, [], ◌∷◌, ◌++◌, length, length-append, get_or, subst, refl, sym, ◌∙◌, ap, arith, inl, inr, ◌⊎◌, Bool, true, false, eq-eqb}
 use Rattle.std.specs.Prelude.{if◌then◌else◌, nat_lt, ◌&&◌, ◌==◌, not}
 use Rattle.av1_block.specs.declared.block.Block.{Block}
 use Rattle.av1_plane.specs.Numbers.{InDepth}
@@ -11,9 +11,8 @@ use Rattle.av1_cdef.specs.Part.{AreDirections, table_direction, table_variance, 
 use Rattle.av1_cdef.specs.Analysis.{IsDeep, is_filtered, block_direction, block_variance, HasDirectionColumns, HasDirections, HasRange, no_directions}
 use Rattle.std.proofs.Math.Nat.{mul-le-mul_right}
 use Rattle.std.proofs.Math.Seq.{get_or-append_seam}
-use Rattle.std.proofs.lemmas.List.{get_or-set_other, get_or_append_left}
-use Rattle.std.proofs.lemmas.Grind.{get_or-set_at}
-use Rattle.std.proofs.lemmas.Bool.{cases_lt, cases_eq, ne_eqb}
+use Rattle.std.proofs.lemmas.List.{get_or_append_left}
+use Rattle.std.proofs.lemmas.Bool.{cases_lt, ne_eqb}
 use Rattle.std.proofs.lemmas.Bool.Decides.{nat_tests}
 
 -- the samples of a plane lie in its list

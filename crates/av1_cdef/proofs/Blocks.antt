@@ -1,15 +1,14 @@
 -- Blocks written row by row.
-use Rattle.std.proofs.Common.{◌≡◌, ◌≢◌, ℕ, ℤ, pos, zero, suc, ◌+◌, ◌-◌, ◌*◌, ◌/◌, ◌<◌, ◌≤◌, min, max, List, length, get_or, refl, sym, ◌∙◌, ap, subst, arith, zero-add, inl, inr, ◌⊎◌, Bool, true, false}
-use Rattle.std.specs.Prelude.{if◌then◌else◌, ◌==◌, nat_lt}
+use Rattle.std.proofs.Common.{◌≡◌, ◌≢◌, ℕ, ℤ, pos, zero, suc, ◌+◌, ◌-◌, ◌*◌, ◌/◌, ◌<◌, ◌≤◌, min, max, List, length, get_or, map, refl, sym, ◌∙◌, ap, subst, arith, zero-add, inl, inr, ◌⊎◌}
+use Rattle.std.specs.Prelude.{if◌then◌else◌, nat_lt}
 use Rattle.std.specs.Int.{abs_diff}
 use Rattle.std.proofs.Math.Nat.{mul-le-mul_right}
 use Rattle.std.proofs.lemmas.Bool.{cases_lt, cases_eq}
-use Rattle.std.proofs.lemmas.List.{get_or-set_other, get_or_default}
+use Rattle.std.proofs.lemmas.List.{get_or-set_other, get_or-map, length-map}
 use Rattle.std.proofs.lemmas.Grind.{get_or-set_at}
 use Rattle.std.proofs.lemmas.List.Elements.{All-get_or}
 use Rattle.av1_plane.specs.Numbers.{Below, InDepth}
-use Rattle.av1_plane.specs.Region.{spot, samples_under, row_step, IsStored, IsSamePart}
-use Rattle.av1_plane.specs.declared.region_mut.PlaneRegionMut.{PlaneRegionMut}
+use Rattle.av1_plane.specs.Region.{spot}
 use Rattle.av1_plane.specs.Runs.{placed}
 use Rattle.av1_cdef.specs.Cells.{AreCells, HasBlock}
 use Rattle.av1_cdef.specs.Picture.{CdefPicture}
@@ -48,22 +47,22 @@ row_below s y i j l =
 pub block_none : (start step x y w : ℕ) (value : ℕ → ℕ → ℤ) (xs : List ℤ) → HasBlock start step x y w 0 value xs xs
 block_none start step x y w value xs = record { long = refl; on = λ i j li lj. absurd (omega arith); off = λ k h. refl }
 
--- one row of a block more
-pub block_more : (start step x y w h : ℕ) (value : ℕ → ℕ → ℤ) (xs ys row zs : List ℤ) → x + w ≤ step → spot start step (x + w) (y + h) ≤ length xs → HasBlock start step x y w h value xs ys
-    → ((j : ℕ) → j < w → get_or row j (pos 0) ≡ value h j) → zs ≡ placed ys (spot start step x (y + h)) row 0 w → HasBlock start step x y w (h + 1) value xs zs
-block_more start step x y w h value xs ys row zs wide inside b is e = record {
-  long = rw e (length-placed ys (spot start step x (y + h)) row 0 w ∙ b.long);
+-- one row of a block more, which stands in a list from place `first` on
+pub block_more : (start step x y w h : ℕ) (value : ℕ → ℕ → ℤ) (xs ys row : List ℤ) (first : ℕ) (zs : List ℤ) → x + w ≤ step → spot start step (x + w) (y + h) ≤ length xs → HasBlock start step x y w h value xs ys
+    → ((j : ℕ) → j < w → get_or row (first + j) (pos 0) ≡ value h j) → zs ≡ placed ys (spot start step x (y + h)) row first w → HasBlock start step x y w (h + 1) value xs zs
+block_more start step x y w h value xs ys row first zs wide inside b is e = record {
+  long = rw e (length-placed ys (spot start step x (y + h)) row first w ∙ b.long);
   on = λ i j li lj. rw e (elim (cases_lt i h) [
     | inl before ↦
         let apart = row_below step y i h before in
-        placed_off ys (spot start step x (y + h)) row 0 w (spot start step (x + j) (y + i)) (λ d ld f. omega arith) ∙ b.on i j before lj
+        placed_off ys (spot start step x (y + h)) row first w (spot start step (x + j) (y + i)) (λ d ld f. omega arith) ∙ b.on i j before lj
     | inr here ↦
         let same : i ≡ h = omega arith in
         rw same (let at : spot start step (x + j) (y + h) ≡ spot start step x (y + h) + j = omega arith in
         let long = b.long in
-        placed_at ys (spot start step x (y + h)) row 0 w (spot start step (x + j) (y + h)) j at lj (omega arith) ∙ ap (λ m. get_or row m (pos 0)) (zero-add j) ∙ is j lj)
+        placed_at ys (spot start step x (y + h)) row first w (spot start step (x + j) (y + h)) j at lj (omega arith) ∙ is j lj)
   ]);
-  off = λ k f. rw e (placed_off ys (spot start step x (y + h)) row 0 w k (λ d ld g. f h d (omega arith) ld (g ∙ omega arith)) ∙ b.off k (λ i j li lj. f i j (omega arith) lj));
+  off = λ k f. rw e (placed_off ys (spot start step x (y + h)) row first w k (λ d ld g. f h d (omega arith) ld (g ∙ omega arith)) ∙ b.off k (λ i j li lj. f i j (omega arith) lj));
 }
 
 -- Filtered samples are no greater than their taps.
@@ -75,12 +74,8 @@ Ok b c = (c < b) ⊎ (c ≡ 0x8000)
 -- a tap leaves the greatest below the bound
 counted_below : (b : ℕ) (t : Tally) (x cell weight strength shift : ℕ) → t.greatest < b → Ok b cell → (counted t x cell weight strength shift).greatest < b
 unfolding counted
-counted_below b t x cell weight strength shift h (inl l) = at (cell == 0x8000)
-  where
-    at : (s : Bool) → (if s then t.greatest else max t.greatest cell) < b
-    at true = h
-    at false = omega arith
-counted_below b t x cell weight strength shift h (inr e) = rw e h
+counted_below b t x cell weight strength shift h (inl l) = omega arith
+counted_below b t x cell weight strength shift h (inr e) = rw e (omega arith)
 
 -- a cell among cells
 cell_ok : (b : ℕ) (cells : List ℕ) (i : ℕ) → AreCells b cells → i < length cells → Ok b (get_or cells i 0)
@@ -118,26 +113,28 @@ filtered_below b cells at s m h l =
     last v a c k = omega arith
 
 -- a row of filtered samples is below the bound
-pub row_range : (b : ℕ) (cells : List ℕ) (at : ℕ) (s : Taps) (out : List ℤ) → at + length out + 51 < length cells → AreCells b cells → ((k : ℕ) → k < length out → get_or cells (at + k + 26) 0 < 4096)
-    → ((k : ℕ) → k < length out → get_or out k (pos 0) ≡ pos (filtered_cell cells (at + k) s)) → Below b out
+pub row_range : (b : ℕ) (cells : List ℕ) (at : ℕ) (s : Taps) (out : List ℕ) → at + length out + 51 < length cells → AreCells b cells → ((k : ℕ) → k < length out → get_or cells (at + k + 26) 0 < 4096)
+    → ((k : ℕ) → k < length out → get_or out k 0 ≡ filtered_cell cells (at + k) s) → Below b (map pos out)
 row_range b cells at s out m h l f = record {
-  each = λ k d lk.
+  each = λ k d lm.
+      let long : length (map pos out) ≡ length out = length-map out pos in
+      let lk : k < length out = omega arith in
       let low : filtered_cell cells (at + k) s < b = filtered_below b cells (at + k) s (omega arith) h (l k lk) in
-      let is : get_or out k d ≡ pos (filtered_cell cells (at + k) s) = sym (get_or_default out k (pos 0) d lk) ∙ f k lk in
+      let is : get_or (map pos out) k d ≡ pos (filtered_cell cells (at + k) s) = get_or-map pos out k 0 d lk ∙ ap pos (f k lk) in
       subst (InDepth b) (sym is) (grind arith, grind arith);
 }
 
 -- a row of filtered samples is the block's
-pub row_values : (cells : List ℕ) (s : Taps) (h w : ℕ) (out : List ℤ) → ((k : ℕ) → k < w → get_or out k (pos 0) ≡ pos (filtered_cell cells (12 * h + k) s)) → (j : ℕ) → j < w → get_or out j (pos 0) ≡ block_value cells s h j
+pub row_values : (cells : List ℕ) (s : Taps) (h w : ℕ) (out : List ℕ) → w ≤ length out → ((k : ℕ) → k < w → get_or out k 0 ≡ filtered_cell cells (12 * h + k) s) → (j : ℕ) → j < w → get_or (map pos out) (0 + j) (pos 0) ≡ block_value cells s h j
 unfolding block_value
-row_values cells s h w out f j l = f j l
+row_values cells s h w out long f j l = ap (λ m. get_or (map pos out) m (pos 0)) (zero-add j) ∙ get_or-map pos out j 0 (pos 0) (omega arith) ∙ ap pos (f j l)
 
 -- a row of copied samples is the block's
-pub copied_values : (p : CdefPicture) (x y i w from : ℕ) (out : List ℤ) → from ≡ p.origin + (y + i) * p.step + x → ((k : ℕ) → k < w → get_or out k (pos 0) ≡ get_or p.samples (from + k) (pos 0)) → (j : ℕ) → j < w → get_or out j (pos 0) ≡ copied_at p x y i j
+pub copied_values : (p : CdefPicture) (x y i from j : ℕ) → from ≡ p.origin + (y + i) * p.step + x → get_or p.samples (from + j) (pos 0) ≡ copied_at p x y i j
 unfolding copied_at
-copied_values p x y i w from out e f j l =
+copied_values p x y i from j e =
     let at : from + j ≡ p.origin + (y + i) * p.step + (x + j) = omega arith in
-    f j l ∙ ap (λ m. get_or p.samples m (pos 0)) at
+    ap (λ m. get_or p.samples m (pos 0)) at
 
 -- a row of a block lies in the list
 pub row_fits : (n origin step x y i w h : ℕ) → i < h → origin + (y + h) * step + x + w ≤ n + step → origin + (y + i) * step + x + w ≤ n

@@ -1,5 +1,5 @@
-use Rattle.std.proofs.Common.{◌≡◌, ℕ, ℤ, pos, suc, ◌+◌, ◌-◌, ◌*◌, ◌%◌, min, List, [], ◌∷◌, All, refl, arith, Bool, true, false}
-use Rattle.std.specs.Prelude.{if◌then◌else◌, nat_lt, ◌+ℤ◌, ◌-ℤ◌, ◌*ℤ◌, ◌≤ℤ◌, neg_ℤ, Option, Some, None}
+use Rattle.std.proofs.Common.{◌≡◌, ℕ, ℤ, pos, suc, ◌+◌, ◌-◌, ◌*◌, ◌%◌, min, max, List, [], ◌∷◌, All, refl, arith, Bool, true, false}
+use Rattle.std.specs.Prelude.{if◌then◌else◌, ◌+ℤ◌, ◌-ℤ◌, ◌*ℤ◌, ◌≤ℤ◌, neg_ℤ, Option, Some, None}
 use Rattle.std.specs.Int.{int_min, int_max, is_negative}
 use Rattle.std.specs.Int.RustNames.{unsigned_abs}
 use Rattle.std.proofs.lemmas.Int.{ints}
@@ -8,7 +8,7 @@ use Rattle.av1_cdef.specs.Strength.{floor_log2, constrained, pull}
 use Rattle.std.proofs.lemmas.List.Elements.{All-cons}
 use Rattle.av1_cdef.specs.declared.settings.Settings.{Settings}
 use Rattle.av1_cdef.specs.Picture.{sample_at, near}
-use Rattle.av1_cdef.specs.Frame.{Deblocked, Channel, settings_of, is_skipped, block_cdef}
+use Rattle.av1_cdef.specs.Frame.{settings_of, is_skipped, block_cdef}
 use Rattle.av1_cdef.specs.Filter.{Tap, filtered_sample, filtered_near, pair, taps_at, taps_of, tap_row, tap_column, primary_weight, secondary_weight, tap_pull, sum_of_taps, least_of_taps, greatest_of_taps, least_with, greatest_with}
 use Rattle.av1_cdef.specs.Tally.{counted}
 use Rattle.av1_cdef.specs.Laws.{SentinelAddsNothing, NoStrengthNoChange}
@@ -19,11 +19,13 @@ pub sentinel_adds_nothing : SentinelAddsNothing
 unfolding counted
 sentinel_adds_nothing t x weight strength damping lx low ls ld most =
     let z = none_pulls x strength damping lx ls most in
-    let f : nat_lt 0x8000 x ≡ false = grind (arith, nat_tests) in
+    let f : pull (x - 0x8000) strength (damping - floor_log2 strength) ≡ 0 = omega arith in
     let n : weight * 0 ≡ 0 = omega arith in
     let u : t.up + 0 ≡ t.up = omega arith in
+    let d : t.down + 0 ≡ t.down = omega arith in
     let l : min t.least 0x8000 ≡ t.least = omega arith in
-    rw (z, f, n, u, l) refl
+    let g : max t.greatest 0 ≡ t.greatest = omega arith in
+    rw (z, f, n, u, d, l, g) refl
 
 -- a tap of strength 0 adds 0
 no_pull : (damping : ℕ) (x : ℤ) (t : Tap) → t.strength ≡ 0 → tap_pull damping x t ≡ pos 0
@@ -96,7 +98,7 @@ still_taps near s k rest p q h =
     (still_pair near ((s.direction + 6) % 8) k (secondary_weight k) s.secondary rest q h))
 
 -- without strengths a sample stays
-still_near : (near : ℕ → ℕ → Option ℤ) (s : Settings) (x : ℤ) → s.primary ≡ 0 → s.secondary ≡ 0 → filtered_near near s x ≡ x
+pub still_near : (near : ℕ → ℕ → Option ℤ) (s : Settings) (x : ℤ) → s.primary ≡ 0 → s.secondary ≡ 0 → filtered_near near s x ≡ x
 still_near near s x p q =
     unmoved s.damping x (taps_of near s) (still_taps near s 0 (taps_at near s 1 []) p q (still_taps near s 1 [] p q (λ k d l. absurd (omega arith))))
 

@@ -1,12 +1,12 @@
 -- A frame that is lent whole holds the samples of a view of its whole table.
-use Rattle.std.proofs.Common.{◌≡◌, ℕ, ℤ, pos, ◌+◌, ◌*◌, ◌/◌, ◌^◌, ◌<◌, ◌≤◌, map, refl, sym, ◌∙◌, ap, arith, inl, inr, ◌⊎◌}
+use Rattle.std.proofs.Common.{◌≡◌, ℕ, ℤ, pos, ◌*◌, ◌/◌, ◌^◌, ◌<◌, map, refl, ◌∙◌, ap, arith, inl, inr, ◌⊎◌}
 use Rattle.std.proofs.lemmas.Int.{ints}
 use Rattle.av1_plane.specs.Layout.{rounded}
 use Rattle.av1_plane.specs.Place.{stored_at, origin_place, rect_start}
 use Rattle.av1_plane.specs.Planes.{SamePlane, SameFrame}
-use Rattle.av1_plane.specs.Region.{area, row_step, first_place, numbers_under}
+use Rattle.av1_plane.specs.Region.{area}
 use Rattle.av1_plane.specs.Regions.{LendsRect}
-use Rattle.av1_plane.specs.Tiles.{plane_rect, whole_tile, IsTileUnder}
+use Rattle.av1_plane.specs.Tiles.{plane_rect, IsTileUnder}
 use Rattle.av1_plane.specs.declared.plane.Plane.{Plane}
 use Rattle.av1_plane.specs.declared.plane.PlaneConfig.{PlaneConfig}
 use Rattle.av1_plane.specs.declared.frame.Frame.{Frame}

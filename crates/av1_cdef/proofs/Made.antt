@@ -1,13 +1,12 @@
 -- A frame made for its parameters, and a view of its blocks, meet what the filters ask.
-use Rattle.std.proofs.Common.{◌≡◌, ℕ, ℤ, pos, ◌+◌, ◌-◌, ◌*◌, ◌/◌, ◌%◌, ◌^◌, ◌<◌, ◌≤◌, List, length, get_or, map, All, refl, sym, ◌∙◌, ap, subst, arith, inl, inr, ◌⊎◌}
-use Rattle.std.specs.Prelude.{min, None, Some}
+use Rattle.std.proofs.Common.{◌≡◌, ℕ, ℤ, pos, ◌+◌, ◌-◌, ◌*◌, ◌/◌, ◌^◌, ◌<◌, ◌≤◌, List, length, get_or, map, All, refl, sym, ◌∙◌, ap, subst, arith, inl, inr, ◌⊎◌}
 use Rattle.std.proofs.lemmas.Nat.{pow-add}
 use Rattle.std.proofs.lemmas.Bool.{cases_lt}
 use Rattle.std.proofs.lemmas.List.{get_or_past}
 use Rattle.std.proofs.lemmas.List.Elements.{All-get_or}
 use Rattle.av1_plane.specs.Numbers.{InDepth}
 use Rattle.av1_plane.specs.Place.{origin_place}
-use Rattle.av1_plane.specs.Layout.{rounded, plane_layout, chroma_layout, frame_layout}
+use Rattle.av1_plane.specs.Layout.{rounded, plane_layout, chroma_layout}
 use Rattle.av1_plane.specs.Sampling.{decimation}
 use Rattle.av1_plane.specs.Region.{area}
 use Rattle.av1_plane.specs.declared.three.Three.{Three}
@@ -20,7 +19,7 @@ use Rattle.av1_plane.specs.declared.region_mut.PlaneRegionMut.{PlaneRegionMut}
 use Rattle.av1_block.specs.Tables.{TileBlocks, view_cols, view_rows}
 use Rattle.av1_tiling.specs.Views.{view_plane, view_frame}
 use Rattle.av1_tiling.specs.Frames.{Parameters, FitsDepth, IsFrame, IsInputFor, IsInRange}
-use Rattle.av1_cdef.specs.Analysis.{plane_picture, header_of, IsDeep, CanAnalyze}
+use Rattle.av1_cdef.specs.Analysis.{plane_picture, header_of, IsDeep}
 use Rattle.av1_cdef.specs.Superblock.{IsCdefHeader, CanReadFrame, CanFilter}
 use Rattle.av1_cdef.specs.Conditions.{IsViewFor, HasViewRoom}
 

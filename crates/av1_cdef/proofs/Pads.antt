@@ -107,6 +107,18 @@ row_padded at place w left right xs a b c d h p q r =
     let n : 2 + w + 2 ≡ w + 4 = omega arith in
     subst (λ m. HasCellRun at m (row_cells xs place w left right) a d) n all
 
+-- a row whose plane goes on both ways is one run
+pub row_inner : (at place w : ℕ) (left right : Bool) (xs : List ℤ) (a b : List ℕ) → left ≡ true → right ≡ true → 2 ≤ place → HasCellRun at (w + 4) (plain_cells xs (place - 2)) a b → HasCellRun at (w + 4) (row_cells xs place w left right) a b
+unfolding plain_cells row_cells
+row_inner at place w left right xs a b el er l h = record {
+  long = h.long;
+  on = λ k lk.
+      let here : place - 2 + k ≡ place + k - 2 = omega arith in
+      let none : missing k w left right ≡ false = rw (el, er) (grind (arith, nat_tests)) in
+      h.on k lk ∙ (rw (none, here) refl);
+  off = h.off;
+}
+
 pub ruleset rows = (row_padded)
 
 -- Rows of a window.

@@ -1,25 +1,34 @@
 -- One block of a part.
-use Rattle.std.proofs.Common.{◌≡◌, ℕ, ◌+◌, ◌-◌, ◌*◌, ◌<◌, ◌≤◌, List, refl, ◌∙◌, ap, arith, Bool, true, false}
-use Rattle.std.specs.Prelude.{nat_lt}
+use Rattle.std.proofs.Common.{◌≡◌, ℕ, ◌+◌, ◌-◌, ◌*◌, ◌<◌, ◌≤◌, List, refl, sym, ◌∙◌, ap, arith, Bool, true, false}
+use Rattle.std.specs.Prelude.{nat_lt, ◌==◌, ◌&&◌, ◌||◌}
 use Rattle.std.proofs.Math.Nat.{mul-le-mul_left, mul-le-mul_right}
 use Rattle.std.proofs.lemmas.Bool.Decides.{nat_tests}
 use Rattle.av1_block.specs.declared.block.Block.{Block}
 use Rattle.av1_cdef.specs.declared.settings.Settings.{Settings}
 use Rattle.av1_cdef.specs.declared.part.Plan.{Plan}
 use Rattle.av1_cdef.specs.declared.directions.CdefDirections.{CdefDirections}
-use Rattle.av1_cdef.specs.Picture.{CdefPicture, filtered_at, IsBlockOf}
+use Rattle.av1_cdef.specs.Picture.{CdefPicture, sample_at, near, filtered_at, IsBlockOf}
+use Rattle.av1_cdef.proofs.LawProofs.{still_near}
 use Rattle.std.specs.Int.RustNames.{unsigned_abs}
 use Rattle.av1_cdef.specs.Part.{copied_at, block_sample, part_sample, all_skipped, settings_by, table_direction, table_variance, sides_at}
 
--- a block that is skipped is copied
-pub sample_copied : (p : CdefPicture) (skip : Bool) (s : Settings) (x y i j : ℕ) → skip ≡ true → copied_at p x y i j ≡ block_sample p skip s x y i j
-unfolding block_sample
-sample_copied p skip s x y i j e = rw e refl
+-- a filter without strengths copies
+still_at : (p : CdefPicture) (s : Settings) (x y i j : ℕ) → (s.primary == 0 && s.secondary == 0) ≡ true → copied_at p x y i j ≡ filtered_at p s x y i j
+unfolding copied_at filtered_at
+still_at p s x y i j e =
+    sym (still_near (near p (x + j) (y + i)) s (sample_at p (x + j) (y + i)) (grind (arith, nat_tests)) (grind (arith, nat_tests)))
 
--- a block that is not skipped is filtered
-pub sample_filtered : (p : CdefPicture) (skip : Bool) (s : Settings) (x y i j : ℕ) → skip ≡ false → filtered_at p s x y i j ≡ block_sample p skip s x y i j
+-- a block that is skipped, or that has no strengths, is copied
+pub sample_copied : (p : CdefPicture) (skip : Bool) (s : Settings) (x y i j : ℕ) → (skip || s.primary == 0 && s.secondary == 0) ≡ true → copied_at p x y i j ≡ block_sample p skip s x y i j
 unfolding block_sample
-sample_filtered p skip s x y i j e = rw e refl
+sample_copied p true s x y i j e = refl
+sample_copied p false s x y i j e = still_at p s x y i j e
+
+-- any other block is filtered
+pub sample_filtered : (p : CdefPicture) (skip : Bool) (s : Settings) (x y i j : ℕ) → (skip || s.primary == 0 && s.secondary == 0) ≡ false → filtered_at p s x y i j ≡ block_sample p skip s x y i j
+unfolding block_sample
+sample_filtered p true s x y i j e = absurd cc
+sample_filtered p false s x y i j e = refl
 
 -- a block with its settings is one of the part
 pub part_is : (p : CdefPicture) (blocks : List Block) (step : ℕ) (plan : Plan) (dirs : CdefDirections) (tx ty w h left top u v i j : ℕ) (skip : Bool) (s : Settings) → skip ≡ all_skipped blocks step u v

@@ -18,10 +18,10 @@ use Rattle.av1_cdef.specs.declared.tally.Tally.{Tally}
 use Rattle.av1_cdef.proofs.Logs.{log2_below}
 
 -- the difference to a cell that the plane does not have pulls nothing
-pub none_pulls : (x strength damping : ℕ) → x < 4096 → strength ≤ 240 → damping ≤ 10 → pull (abs_diff x 0x8000) strength (damping - floor_log2 strength) ≡ 0
+pub none_pulls : (x strength damping : ℕ) → x < 4096 → strength ≤ 240 → damping ≤ 10 → pull (0x8000 - x) strength (damping - floor_log2 strength) ≡ 0
 none_pulls x strength damping lx ls ld = go (floor_log2 strength) (log2_below strength (omega arith))
   where
-    go : (k : ℕ) → (k ≤ 7) × (strength < 2 * 2 ^ k) → pull (abs_diff x 0x8000) strength (damping - k) ≡ 0
+    go : (k : ℕ) → (k ≤ 7) × (strength < 2 * 2 ^ k) → pull (0x8000 - x) strength (damping - k) ≡ 0
     go k h =
         let small : k ≤ 7 = h.0 in
         let low : strength ≤ 2 * 2 ^ k = let l = h.1 in omega arith in
@@ -31,7 +31,7 @@ none_pulls x strength damping lx ls ld = go (floor_log2 strength) (log2_below st
         let power : 2 ^ k * 2 ^ (10 - k) ≡ 2 ^ 10 = sym (pow-add 2 k (10 - k)) ∙ ap (λ n. 2 ^ n) ten in
         let all : 2 * 2 ^ k * 2 ^ (10 - k) ≡ 2048 = grind arith in
         let positive : 0 < 2 ^ (damping - k) = pow_pos (damping - k) in
-        let most : strength ≤ abs_diff x 0x8000 / 2 ^ (damping - k) = le-div strength (abs_diff x 0x8000) (2 ^ (damping - k)) positive (omega arith) in
+        let most : strength ≤ (0x8000 - x) / 2 ^ (damping - k) = le-div strength (0x8000 - x) (2 ^ (damping - k)) positive (omega arith) in
         omega arith
 
 -- a tally, and what it stands for at a sample below 4096
@@ -51,25 +51,35 @@ times_neg w zero = let z : w * 0 ≡ 0 = omega arith in rw z refl
 times_neg w (suc m) = refl
 
 -- a pull downwards
-down_more : (u d n : ℕ) (sum : ℤ) → pos u -ℤ pos d ≡ sum → pos u -ℤ pos (d + n) ≡ sum +ℤ neg_ℤ (pos n)
-down_more u d n sum e = omega (arith, ints)
+down_alone : (u d n : ℕ) (sum : ℤ) → pos u -ℤ pos d ≡ sum → pos (u + 0) -ℤ pos (d + n) ≡ sum +ℤ neg_ℤ (pos n)
+down_alone u d n sum e = omega (arith, ints)
 
 -- a pull upwards
-up_more : (u d n : ℕ) (sum : ℤ) → pos u -ℤ pos d ≡ sum → pos (u + n) -ℤ pos d ≡ sum +ℤ pos n
-up_more u d n sum e = omega (arith, ints)
+up_alone : (u d n : ℕ) (sum : ℤ) → pos u -ℤ pos d ≡ sum → pos (u + n) -ℤ pos (d + 0) ≡ sum +ℤ pos n
+up_alone u d n sum e = omega (arith, ints)
 
 -- a cell below the sample
 below_is : (x c : ℕ) → is_negative (pos c -ℤ pos x) ≡ nat_lt c x
 below_is x c = grind (arith, ints, nat_tests)
 
 -- a pull with its sign
-signed_pull : (x c w m : ℕ) (t : Tally) (sum : ℤ) → pos t.up -ℤ pos t.down ≡ sum →
-    (pos (if nat_lt c x then t.up else t.up + w * m) -ℤ pos (if nat_lt c x then t.down + w * m else t.down)) ≡ sum +ℤ pos w *ℤ with_sign (pos c -ℤ pos x) m
-signed_pull x c w m t sum e = rw (below_is x c) (at (nat_lt c x))
-  where
-    at : (b : Bool) → (pos (if b then t.up else t.up + w * m) -ℤ pos (if b then t.down + w * m else t.down)) ≡ sum +ℤ pos w *ℤ (if b then neg_ℤ (pos m) else pos m)
-    at true = rw (times_neg w m) (down_more t.up t.down (w * m) sum e)
-    at false = up_more t.up t.down (w * m) sum e
+signed_pull : (x c w strength shift : ℕ) (t : Tally) (sum : ℤ) → pos t.up -ℤ pos t.down ≡ sum →
+    (pos (t.up + w * pull (c - x) strength shift) -ℤ pos (t.down + w * pull (x - c) strength shift))
+    ≡ sum +ℤ pos w *ℤ with_sign (pos c -ℤ pos x) (pull (abs_diff x c) strength shift)
+signed_pull x c w strength shift t sum e = rw (below_is x c) (elim (cases_lt c x) [
+  | inl l ↦
+      let b : nat_lt c x ≡ true = grind (arith, nat_tests) in
+      let p : pull (c - x) strength shift ≡ 0 = omega arith in
+      let z : w * 0 ≡ 0 = omega arith in
+      let s : abs_diff x c ≡ x - c = omega arith in
+      rw (b, p, z, s) (rw (times_neg w (pull (x - c) strength shift)) (down_alone t.up t.down (w * pull (x - c) strength shift) sum e))
+  | inr l ↦
+      let b : nat_lt c x ≡ false = grind (arith, nat_tests) in
+      let p : pull (x - c) strength shift ≡ 0 = omega arith in
+      let z : w * 0 ≡ 0 = omega arith in
+      let s : abs_diff x c ≡ c - x = omega arith in
+      rw (b, p, z, s) (up_alone t.up t.down (w * pull (c - x) strength shift) sum e)
+])
 
 -- how far a cell is from the sample
 distance_is : (x c : ℕ) → unsigned_abs (pos c -ℤ pos x) ≡ abs_diff x c
@@ -82,19 +92,19 @@ unfolding counted
 counted_is x c w strength damping shift t sum least greatest o lx (inl l) ls ld es eo h =
     let large : (c == 0x8000) ≡ false = ne_eqb c 0x8000 (λ e. omega arith) in
     let is : o ≡ Some (pos c) = sym eo ∙ (rw large refl) in
-    rw (is, large, es) record {
-      total = signed_pull x c w (pull (abs_diff x c) strength (damping - floor_log2 strength)) t sum h.total ∙ (rw (distance_is x c) refl);
+    rw (is, es) record {
+      total = signed_pull x c w strength (damping - floor_log2 strength) t sum h.total ∙ (rw (distance_is x c) refl);
       low = rw (← h.low) (grind (arith, ints, nat_tests));
-      high = rw (← h.high) (grind (arith, ints, nat_tests));
+      high = rw (← h.high) (let kept : c % 0x8000 ≡ c = omega arith in rw kept (grind (arith, ints, nat_tests)));
       small = let s = h.small in omega arith;
     }
 counted_is x c w strength damping shift t sum least greatest o lx (inr e) ls ld es eo h =
     let is : o ≡ None = sym eo ∙ (rw e refl) in
     let zero_pull = none_pulls x strength damping lx ls ld in
     rw (is, e, es, zero_pull) record {
-      total = rw (← h.total) (let f : nat_lt 0x8000 x ≡ false = grind (arith, nat_tests) in let z : w * 0 ≡ 0 = omega arith in rw (f, z) (omega (arith, ints)));
+      total = rw (← h.total) (let p : pull (x - 0x8000) strength (damping - floor_log2 strength) ≡ 0 = omega arith in let z : w * 0 ≡ 0 = omega arith in rw (p, z) (omega (arith, ints)));
       low = rw (← h.low) (let s = h.small in let e : min t.least 0x8000 ≡ t.least = omega arith in ap pos e);
-      high = h.high;
+      high = rw (← h.high) (let m : max t.greatest 0 ≡ t.greatest = omega arith in ap pos m);
       small = let s = h.small in omega arith;
     }
 

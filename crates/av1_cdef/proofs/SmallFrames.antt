@@ -1,5 +1,5 @@
 -- The small frame of the tests.
-use Rattle.std.proofs.Common.{◌≡◌, ℕ, ℤ, pos, ◌+◌, ◌*◌, ◌/◌, ◌%◌, ◌^◌, ◌<◌, ◌≤◌, List, [], ◌∷◌, length, drop, get_or, map, All, zero, suc, refl, sym, ◌∙◌, ap, subst, arith, inl, inr}
+use Rattle.std.proofs.Common.{◌≡◌, ℕ, ℤ, pos, ◌+◌, ◌*◌, ◌<◌, ◌≤◌, List, [], ◌∷◌, length, drop, get_or, map, All, sym, ap, subst, arith, inl, inr}
 use Rattle.std.proofs.lemmas.Bool.{cases_lt}
 use Rattle.std.proofs.lemmas.List.{get_or_past, get_or-drop}
 use Rattle.std.proofs.lemmas.List.Elements.{All-get_or, All-cons}
@@ -12,7 +12,6 @@ use Rattle.av1_plane.specs.declared.plane.PlaneConfig.{PlaneConfig}
 use Rattle.av1_plane.specs.declared.frame.Frame.{Frame}
 use Rattle.av1_plane.specs.declared.tile_mut.TileMut.{TileMut}
 use Rattle.av1_plane.specs.declared.region_mut.PlaneRegionMut.{PlaneRegionMut}
-use Rattle.av1_plane.specs.declared.sampling.ChromaSampling.{ChromaSampling}
 use Rattle.av1_plane.specs.declared.sampling.ChromaSampling.TheVariants.{Cs400}
 use Rattle.av1_block.specs.declared.block.Block.{Block}
 use Rattle.av1_block.specs.Block.{default_block}

@@ -1,5 +1,5 @@
 -- Superblock by superblock.
-use Rattle.std.proofs.Common.{◌≡◌, ℕ, ℤ, pos, ◌+◌, ◌-◌, ◌*◌, ◌/◌, ◌%◌, ◌^◌, ◌<◌, ◌≤◌, List, get_or, min, refl, sym, ◌∙◌, ap, arith, inl, inr, ◌⊎◌}
+use Rattle.std.proofs.Common.{◌≡◌, ℕ, ℤ, pos, ◌+◌, ◌-◌, ◌*◌, ◌/◌, ◌%◌, ◌<◌, ◌≤◌, List, get_or, min, refl, sym, ◌∙◌, ap, arith, inl, inr, ◌⊎◌}
 use Rattle.std.proofs.Math.Nat.{mul-le-mul_left, mul-div-le, lt-div-mul-add, mul-add-div}
 use Rattle.std.proofs.lemmas.Bool.{cases_lt}
 use Rattle.av1_plane.specs.declared.plane.PlaneConfig.{PlaneConfig}

@@ -1,5 +1,5 @@
 -- Laws of the definitions.
-use Rattle.std.specs.Prelude.{ℕ, ℤ, ◌≡◌, ◌<◌, ◌≤◌, ◌+◌, ◌-◌, List, All, map, length}
+use Rattle.std.specs.Prelude.{ℕ, ◌≡◌, ◌<◌, ◌≤◌, ◌+◌, ◌-◌, List, All, map, length}
 use Rattle.av1_cdef.specs.declared.tally.Tally.{Tally}
 use Rattle.av1_cdef.specs.Strength.{floor_log2}
 use Rattle.av1_cdef.specs.Direction.{direction, direction_variance}

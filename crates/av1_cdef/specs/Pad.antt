@@ -1,6 +1,6 @@
 -- The cells of a block of w by h samples and of two more on each side. The cell at column 2 of row 2
 -- is the block's first sample.
-use Rattle.std.specs.Prelude.{ℕ, ℤ, pos, ◌≡◌, ◌<◌, ◌≤◌, ◌+◌, ◌-◌, ◌*◌, ◌^◌, ◌≢◌, Bool, ◌&&◌, ◌||◌, not, nat_lt, nat_le, List, length, slice_index, if◌then◌else◌}
+use Rattle.std.specs.Prelude.{ℕ, ℤ, pos, ◌≡◌, ◌<◌, ◌≤◌, ◌+◌, ◌-◌, ◌*◌, ◌≢◌, Bool, ◌&&◌, ◌||◌, not, nat_lt, nat_le, List, length, slice_index, if◌then◌else◌}
 use Rattle.std.specs.List.{slice_index_or}
 use Rattle.std.specs.Int.RustNames.{unsigned_abs}
 use Rattle.av1_cdef.specs.declared.pad.Sides.{Sides}

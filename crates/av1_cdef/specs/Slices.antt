@@ -1,5 +1,5 @@
 -- Blocks that are handed in as plane slices.
-use Rattle.std.specs.Prelude.{ℕ, ℤ, ◌+◌, ◌*◌, ◌==◌, not, bit_and, List, map}
+use Rattle.std.specs.Prelude.{ℕ, ℤ, ◌==◌, not, bit_and, List, map}
 use Rattle.av1_plane.specs.declared.plane_slice.PlaneSlice.{PlaneSlice}
 use Rattle.av1_plane.specs.Slices.{slice_start}
 use Rattle.av1_cdef.specs.declared.pad.Sides.{Sides}

@@ -1,5 +1,5 @@
 -- All blocks of a tile, superblock by superblock.
-use Rattle.std.specs.Prelude.{ℕ, ℤ, pos, ◌≡◌, ◌≢◌, ◌<◌, ◌+◌, ◌*◌, ◌/◌, ◌^◌, ◌⊎◌, List, length}
+use Rattle.std.specs.Prelude.{ℕ, ℤ, pos, ◌≡◌, ◌≢◌, ◌<◌, ◌+◌, ◌*◌, ◌/◌, ◌⊎◌, List, length}
 use Rattle.std.specs.List.{slice_index_or}
 use Rattle.av1_plane.specs.declared.frame.Frame.{Frame}
 use Rattle.av1_plane.specs.declared.region_mut.PlaneRegionMut.{PlaneRegionMut}

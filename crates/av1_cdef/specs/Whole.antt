@@ -1,5 +1,5 @@
 -- CDEF of a whole frame: planes to planes.
-use Rattle.std.specs.Prelude.{ℕ, zero, suc, ℤ, ◌≡◌, ◌<◌, ◌+◌, ◌-◌, ◌*◌, ◌/◌, ◌%◌, Bool, ◌&&◌, nat_le, nat_lt, List, [], ◌∷◌, map, if◌then◌else◌}
+use Rattle.std.specs.Prelude.{ℕ, suc, ℤ, ◌≡◌, ◌<◌, ◌+◌, ◌-◌, ◌/◌, ◌%◌, Bool, ◌&&◌, nat_le, nat_lt, List, [], ◌∷◌, map, if◌then◌else◌}
 use Rattle.av1_plane.specs.Place.{origin_place}
 use Rattle.av1_plane.specs.Region.{numbers_under, first_place, row_step}
 use Rattle.av1_plane.specs.declared.three.Three.{Three}

@@ -1,5 +1,4 @@
-ghost use Rattle.std.specs.Prelude.{◌≡◌, ℕ, pos, ◌+◌, ◌*◌, ◌<◌, ◌≤◌, length, slice_index, replicate};
-ghost use Rattle.std.specs.List.{slice_index_or};
+ghost use Rattle.std.specs.Prelude.{◌≡◌, ℕ, pos, ◌+◌, ◌*◌, ◌<◌, ◌≤◌, length, slice_index, replicate, map};
 ghost use Rattle.av1_plane.specs.Numbers.{Below};
 ghost use Rattle.av1_plane.specs.Region.{numbers_under, first_place, row_step, area, IsStored, IsSamePart};
 ghost use Rattle.av1_cdef.specs.Tally.{filtered_cell, block_value};
@@ -23,31 +22,16 @@ use av1_plane::{Pixel, PlaneRegionMut};
 fn filter_cells(cells: &[u16], at: usize, taps: &Taps, row: &mut [u16])
     requires inside { at + length row.old + 51 < length cells.now }
     requires samples { (k : ℕ) → k < length row.old → slice_index cells.now (at + k + 26) < 4096 }
-    ensures { (k : ℕ) → k < length row.old
+    ensures value { (k : ℕ) → k < length row.old
         → slice_index row.new k ≡ filtered_cell cells.now (at + k) taps.now }
+    ensures range { (b : ℕ) → AreCells b cells.now → Below b (map pos row.new) }
 {
     for j in 0..row.len() {
         row[j] = filter_cell(cells, at + j, taps);
     }
 }
 
-// Filters a row of samples, by way of `row`.
-#[inline(always)]
-fn filter_row(cells: &[u16], at: usize, taps: &Taps, row: &mut [u16], out: &mut [i32])
-    requires row { length row.old ≡ length out.old }
-    requires inside { at + length out.old + 51 < length cells.now }
-    requires samples { (k : ℕ) → k < length out.old → slice_index cells.now (at + k + 26) < 4096 }
-    ensures value { (k : ℕ) → k < length out.old
-        → slice_index_or out.new k (pos 0) ≡ pos (filtered_cell cells.now (at + k) taps.now) }
-    ensures range { (b : ℕ) → AreCells b cells.now → Below b out.new }
-{
-    filter_cells(cells, at, taps, row);
-    for j in 0..out.len() {
-        out[j] = i32::from(row[j]);
-    }
-}
-
-// By way of `row` and `line`, whose length is the block's width.
+// By way of `row`, whose length is the block's width.
 #[inline(always)]
 #[tactic(auto, using(crate::proofs::Blocks::blocks))]
 fn filter_block_by<T: Pixel, const H: usize>(
@@ -57,27 +41,25 @@ fn filter_block_by<T: Pixel, const H: usize>(
     x: usize,
     y: usize,
     row: &mut [u16],
-    line: &mut [i32],
 )
-    requires row { length row.old ≡ length line.old }
     requires cells { length cells.now ≡ 144 }
-    requires width { length line.old ≤ 8 }
+    requires width { length row.old ≤ 8 }
     requires height { H ≤ 8 }
-    requires samples { HasSamples (length line.old) H cells.now }
+    requires samples { HasSamples (length row.old) H cells.now }
     requires range { AreCells T.limit cells.now }
     requires stored { IsStored p.old }
-    requires x { x + length line.old ≤ (area p.old).width }
+    requires x { x + length row.old ≤ (area p.old).width }
     requires y { y + H ≤ (area p.old).height }
     ensures part { IsSamePart p.old p.new }
-    ensures value { HasBlock (first_place p.old) (row_step p.old) x y (length line.old) H
+    ensures value { HasBlock (first_place p.old) (row_step p.old) x y (length row.old) H
         (block_value cells.now taps.now) (numbers_under T.number p.old)
         (numbers_under T.number p.new) }
 {
     // Asking for the region's sides brings in that they fit.
     let _rows = p.rect().height;
     for i in 0..H {
-        filter_row(cells, 12 * i, taps, row, line);
-        write_run(p, x, y + i, line);
+        filter_cells(cells, 12 * i, taps, row);
+        write_run(p, x, y + i, row);
     }
 }
 
@@ -105,8 +87,7 @@ pub fn filter_block<T: Pixel, const W: usize, const H: usize>(
         (numbers_under T.number p.new) }
 {
     let mut row = [0; W];
-    let mut line = [0; W];
-    filter_block_by::<T, H>(cells, taps, p, x, y, &mut row, &mut line);
+    filter_block_by::<T, H>(cells, taps, p, x, y, &mut row);
 }
 
 // By way of `cells`.

@@ -13,6 +13,14 @@ pub struct Sides {
     pub bottom: bool,
 }
 
+// Whether the plane goes on at both ends of a row.
+#[inline(always)]
+fn goes_on(left: bool, right: bool) -> bool
+    ensures both { result ≡ true → (left ≡ true) × (right ≡ true) }
+{
+    left && right
+}
+
 // Copies `n` samples.
 #[inline(always)]
 #[tactic(auto, using(crate::proofs::Pads::runs))]
@@ -52,10 +60,11 @@ fn pad_side<T: Pixel>(dst: &mut [u16], at: usize, samples: &[T], from: usize, si
     }
 }
 
-// A row of `w` samples, the first of which has that place, with two cells more on each side.
+// A row of `w` samples, the first of which has that place, with two cells more on each side, side by
+// side.
 #[inline(always)]
 #[tactic(auto, using(crate::proofs::Pads::rows))]
-fn pad_row<T: Pixel>(
+fn pad_ends<T: Pixel>(
     dst: &mut [u16],
     at: usize,
     samples: &[T],
@@ -74,6 +83,32 @@ fn pad_row<T: Pixel>(
     pad_side(dst, at, samples, place.saturating_sub(2), left);
     put_cells(dst, at + 2, samples, place, w);
     pad_side(dst, at + 2 + w, samples, place + w, right);
+}
+
+// A row of `w` samples, the first of which has that place, with two cells more on each side. Where the
+// plane goes on both ways it is one run.
+#[inline(always)]
+fn pad_row<T: Pixel>(
+    dst: &mut [u16],
+    at: usize,
+    samples: &[T],
+    place: usize,
+    w: usize,
+    left: bool,
+    right: bool,
+)
+    requires at { at + w + 4 ≤ length dst.old }
+    requires before { left ≡ true → 2 ≤ place }
+    requires row { place + w ≤ length samples.now }
+    requires after { right ≡ true → place + w + 2 ≤ length samples.now }
+    ensures { HasCellRun at (w + 4) (row_cells (map T.number samples.now) place w left right)
+        dst.old dst.new }
+{
+    if goes_on(left, right) {
+        put_cells(dst, at, samples, place - 2, w + 4);
+    } else {
+        pad_ends(dst, at, samples, place, w, left, right);
+    }
 }
 
 // Whether a cell beside `n` samples goes past a side where the plane ends.

@@ -1,6 +1,4 @@
-ghost use Rattle.std.specs.Prelude.{◌≡◌, ℕ, ℤ, pos, ◌+◌, ◌*◌, ◌^◌, ◌<◌, ◌≤◌, length, map, true, false};
-ghost use Rattle.std.specs.List.{slice_index_or};
-ghost use Rattle.av1_plane.specs.Numbers.{Below};
+ghost use Rattle.std.specs.Prelude.{◌≡◌, ℕ, ℤ, pos, ◌+◌, ◌*◌, ◌^◌, ◌<◌, ◌≤◌, ◌==◌, ◌&&◌, ◌||◌, length, map, true, false};
 ghost use Rattle.av1_plane.specs.Region.{numbers_under, first_place, row_step, area, IsStored, IsSamePart};
 ghost use Rattle.av1_block.specs.Tables.{view_entries, view_step, view_at, view_cols, view_rows};
 ghost use Rattle.av1_cdef.specs.Cells.{HasBlock};
@@ -13,7 +11,7 @@ ghost use Rattle.av1_cdef.specs.Frame.{stretched};
 use crate::block::filter_from;
 use crate::directions::CdefDirections;
 use crate::pad::Sides;
-use crate::run::write_run;
+use crate::run::copy_run;
 use crate::settings::Settings;
 use crate::source::Source;
 use crate::strength::adjusted;
@@ -121,55 +119,7 @@ pub fn is_skipped(blocks: &TileBlocks<'_>, bx: usize, by: usize) -> bool
 }
 
 #[inline(always)]
-fn copy_row<T: Pixel>(samples: &[T], from: usize, line: &mut [i32])
-    requires { from + length line.old ≤ length samples.now }
-    ensures value { (k : ℕ) → k < length line.old → slice_index_or line.new k (pos 0)
-        ≡ slice_index_or (map T.number samples.now) (from + k) (pos 0) }
-    ensures range { Below T.limit line.new }
-{
-    for j in 0..line.len() {
-        line[j] = samples[from + j].to_i32();
-    }
-}
-
-// By way of `line`, whose length is the block's width.
-#[inline(always)]
 #[tactic(auto, using(crate::proofs::Blocks::blocks))]
-fn copy_block_by<T: Pixel, const H: usize>(
-    source: &Source<'_, T>,
-    x: usize,
-    y: usize,
-    line: &mut [i32],
-    p: &mut PlaneRegionMut<'_, T>,
-    to_x: usize,
-    to_y: usize,
-)
-    requires width { length line.old ≤ 8 }
-    requires height { H ≤ 8 }
-    requires narrow { source.now.step < 2 ^ 32 }
-    requires y { y + H ≤ source.now.height }
-    requires inside { source.now.origin + (y + H) * source.now.step + x + length line.old ≤ length
-        source.now.samples.now + source.now.step }
-    requires stored { IsStored p.old }
-    requires to_x { to_x + length line.old ≤ (area p.old).width }
-    requires to_y { to_y + H ≤ (area p.old).height }
-    ensures part { IsSamePart p.old p.new }
-    ensures value { HasBlock (first_place p.old) (row_step p.old) to_x to_y (length line.old) H
-        (copied_at (cdef_picture_of T.number source.now) x y) (numbers_under T.number p.old)
-        (numbers_under T.number p.new) }
-{
-    let _length = source.samples.len();
-    let _height = source.height;
-    // Asking for the region's sides brings in that they fit.
-    let _rows = p.rect().height;
-    for i in 0..H {
-        let from = source.origin + (y + i) * source.step + x;
-        copy_row(source.samples, from, line);
-        write_run(p, to_x, to_y + i, line);
-    }
-}
-
-#[inline(always)]
 fn copy_block<T: Pixel, const W: usize, const H: usize>(
     source: &Source<'_, T>,
     x: usize,
@@ -192,8 +142,22 @@ fn copy_block<T: Pixel, const W: usize, const H: usize>(
         (copied_at (cdef_picture_of T.number source.now) x y) (numbers_under T.number p.old)
         (numbers_under T.number p.new) }
 {
-    let mut line = [0; W];
-    copy_block_by::<T, H>(source, x, y, &mut line, p, to_x, to_y);
+    let _length = source.samples.len();
+    let _height = source.height;
+    // Asking for the region's sides brings in that they fit.
+    let _rows = p.rect().height;
+    for i in 0..H {
+        let from = source.origin + (y + i) * source.step + x;
+        copy_run(p, to_x, to_y + i, source.samples, from, W);
+    }
+}
+
+// Whether all samples of a block stay: without strengths the filter changes none.
+#[inline(always)]
+fn stays(skip: bool, settings: Settings) -> bool
+    ensures { result ≡ (skip || settings.primary == 0 && settings.secondary == 0) }
+{
+    skip || settings.primary == 0 && settings.secondary == 0
 }
 
 // Copies or filters a block.
@@ -228,7 +192,7 @@ fn put_block<T: Pixel, const W: usize, const H: usize>(
         (block_sample (cdef_picture_of T.number source.now) skip settings x y)
         (numbers_under T.number p.old) (numbers_under T.number p.new) }
 {
-    if skip {
+    if stays(skip, settings) {
         copy_block::<T, W, H>(source, x, y, p, to_x, to_y);
     } else {
         filter_from::<T, W, H>(source, settings, x, y, sides, p, to_x, to_y);

@@ -46,7 +46,7 @@ fn scale_of(shift: usize) -> u16
 }
 
 // The strengths of an index.
-fn plan_of<T>(fi: &FrameInvariants<T>, luma: bool, same: bool, index: usize) -> Plan
+fn plan_of<T: Pixel>(fi: &FrameInvariants<T>, luma: bool, same: bool, index: usize) -> Plan
     requires header { IsCdefHeader (header_of fi.now) }
     requires index { index < 8 }
     ensures value { result ≡ plan_with (header_of fi.now) luma same index }

@@ -1,12 +1,18 @@
-ghost use Rattle.std.specs.Prelude.{◌≡◌, pos, map, IfOk};
+ghost use Rattle.std.specs.Prelude.{◌≡◌, ◌*◌, ◌≤◌, pos, map, replicate, IfOk};
 ghost use Rattle.av1_plane.specs.Numbers.{Below};
-ghost use Rattle.av1_plane.specs.Layout.{plane_layout};
+ghost use Rattle.av1_plane.specs.Layout.{plane_layout, frame_layout};
+ghost use Rattle.av1_plane.specs.declared.sampling.ChromaSampling.TheVariants.{Cs400};
+ghost use Rattle.av1_block.specs.Block.{default_block};
+ghost use Rattle.av1_tiling.specs.Views.{view_frame};
+ghost use Rattle.av1_tiling.specs.Frames.{IsFrame, layouts};
 
 use super::{
-    CDEF_HAVE_LEFT, CDEF_HAVE_TOP, CDEF_VERY_LARGE, adjust_strength, cdef_find_dir, constrain,
-    first_max_element, pad_into_tmp16,
+    CDEF_HAVE_LEFT, CDEF_HAVE_TOP, CDEF_VERY_LARGE, adjust_strength, cdef_filter_tile,
+    cdef_find_dir, constrain, first_max_element, pad_into_tmp16,
 };
-use av1_plane::{Plane, PlaneOffset};
+use av1_block::{AsTileBlocks, FrameBlocks};
+use av1_plane::{AsRegion, ChromaSampling, Frame, FrameAlloc, Plane, PlaneOffset, Three, TileMut};
+use av1_tiling::{FrameInvariants, FrameType, ReferenceFramesSet, Sequence, TilingInfo};
 use std::alloc::Global;
 use std::test::Fail;
 
@@ -85,5 +91,111 @@ fn cells_of_a_block(rt: HostRuntime) -> Result<(), Fail> {
     ] {
         assert_eq!(rt; cells.get(i), Some(&wanted), "cell {i}");
     }
+    Ok(())
+}
+
+// A key frame of 8 by 8 without chroma, whose luma is filtered with the secondary strength 4.
+fn small_frame(alloc: Global) -> Result<FrameInvariants<u8>, Fail>
+    ensures frame { IfOk result (λ fi. IsFrame 256 fi) }
+    ensures sides { IfOk result (λ fi. (fi.width ≡ 8) × (fi.height ≡ 8)) }
+    ensures sampling { IfOk result (λ fi. fi.sequence.chroma_sampling ≡ Cs400) }
+    ensures depth { IfOk result (λ fi. fi.sequence.bit_depth ≡ 8) }
+    ensures sizes { IfOk result (λ fi. (fi.w_in_b ≡ 2) × (fi.h_in_b ≡ 2)) }
+{
+    let Ok(tiling) = TilingInfo::from_target_tiles(6, 8, 8, 25, 1, 0, 0, false) else {
+        return Err(Fail::from("no tiling"));
+    };
+    let sequence = Sequence {
+        bit_depth: 8,
+        chroma_sampling: ChromaSampling::Cs400,
+        use_128x128_superblock: false,
+        enable_cdef: true,
+        enable_restoration: false,
+        enable_large_lru: false,
+        tiling,
+    };
+    Ok(FrameInvariants {
+        sequence,
+        width: 8,
+        height: 8,
+        sb_width: 1,
+        sb_height: 1,
+        w_in_b: 2,
+        h_in_b: 2,
+        frame_type: FrameType::KEY,
+        base_q_idx: 100,
+        ac_quantizer: 100,
+        cdef_damping: 3,
+        cdef_y_strengths: [3, 0, 0, 0, 0, 0, 0, 0],
+        cdef_uv_strengths: [0; 8],
+        fast_deblock: true,
+        disable_frame_end_update_cdf: false,
+        order_hint: 0,
+        render_width: 8,
+        render_height: 8,
+        refresh_frame_flags: 0,
+        rec_buffer: ReferenceFramesSet::new(alloc)?,
+    })
+}
+
+// Where the sample at row 4, column 4 is stored in rows of 184, past a margin of 88.
+const SPOT: usize = 92 * 184 + 92;
+
+// Samples 100, but 102 at one place.
+fn fill_spot(samples: &mut [u8]) {
+    for i in 0..samples.len() {
+        samples[i] = if i == SPOT { 102 } else { 100 };
+    }
+}
+
+// Fills all of a plane, its margin too.
+fn fill_plane(plane: &mut Plane<u8>)
+    ensures { plane.new.cfg ≡ plane.old.cfg }
+{
+    fill_spot(plane.samples.as_mut_slice());
+}
+
+// Filters a small frame into the planes of its copy.
+fn filter_small(
+    fi: &FrameInvariants<u8>,
+    input: &Frame<u8>,
+    blocks: &FrameBlocks,
+    y: &mut Plane<u8>,
+    u: &mut Plane<u8>,
+    v: &mut Plane<u8>,
+)
+    requires frame { IsFrame 256 fi.now }
+    requires sides { (fi.now.width ≡ 8) × (fi.now.height ≡ 8) }
+    requires sampling { fi.now.sequence.chroma_sampling ≡ Cs400 }
+    requires depth { fi.now.sequence.bit_depth ≡ 8 }
+    requires sizes { (fi.now.w_in_b ≡ 2) × (fi.now.h_in_b ≡ 2) }
+    requires input { layouts (view_frame pos input.now) ≡ frame_layout 8 8 Cs400 }
+    requires output { y.old.cfg ≡ plane_layout 8 8 0 0 88 88 }
+    requires blocks { (blocks.now.cols ≡ 2) × (blocks.now.rows ≡ 2) }
+    requires entries { blocks.now.entries ≡ replicate (2 * 2) default_block }
+{
+    see(input.planes.y.samples.as_slice());
+    let y = y.as_region_mut();
+    let u = u.as_region_mut();
+    let v = v.as_region_mut();
+    let mut tile = TileMut {
+        planes: Three { y, u, v },
+    };
+    let table = blocks.as_tile_blocks();
+    cdef_filter_tile(fi, input, &table, &mut tile);
+}
+
+#[test]
+fn one_sample_of_a_frame(rt: HostRuntime) -> Result<(), Fail> {
+    let alloc = rt.alloc();
+    let fi = small_frame(alloc)?;
+    let mut input: Frame<u8> = Frame::new(alloc, 8, 8, ChromaSampling::Cs400)?;
+    fill_plane(&mut input.planes.y);
+    let mut output = input.try_clone(alloc)?;
+    let blocks = FrameBlocks::new(alloc, 2, 2)?;
+    let Three { y, u, v } = &mut output.planes;
+    filter_small(&fi, &input, &blocks, y, u, v);
+    assert_eq!(rt; input.planes.y.samples.get(SPOT), Some(&102));
+    assert_eq!(rt; output.planes.y.samples.get(SPOT), Some(&100));
     Ok(())
 }

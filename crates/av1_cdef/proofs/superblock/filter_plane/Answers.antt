@@ -1,4 +1,4 @@
-use Rattle.std.proofs.Common.{◌/◌, ◌^◌, arith}
+use Rattle.std.proofs.Common.{arith}
 use Rattle.std.specs.Prelude.{◌==◌}
 use Rattle.av1_plane.specs.Region.{numbers_under, first_place, row_step}
 use Rattle.av1_cdef.specs.Frame.{cdef_block_width, cdef_block_height}
