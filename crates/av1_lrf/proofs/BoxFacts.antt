@@ -3,7 +3,7 @@
 -- that are 0 or m, and each number may be moved to one of these.
 use Rattle.std.proofs.Common.{◌≡◌, ℕ, zero, suc, ◌+◌, ◌-◌, ◌*◌, ◌/◌, ◌<◌, ◌≤◌, refl, sym, subst, arith, ◌^◌, inl, inr, lit≤}
 use Rattle.std.proofs.lemmas.Nat.{mul-le}
-use Rattle.av1_lrf.specs.Sums.{total_below}
+use Rattle.av1_lrf.specs.Sums.{total_of_first}
 use Rattle.av1_lrf.specs.Guided.{Table, box, squared, variation}
 use Rattle.av1_lrf.specs.Wiener.{IsDepth}
 
@@ -44,31 +44,31 @@ varies_is : (n m b l c q l' c' q' : ℕ) → l ≡ l' → c ≡ c' → q ≡ q' 
 varies_is n m b l c q l' c' q' el ec eq h = subst (λ (a : ℕ). Varies n m b a c' q') el (subst (λ (a : ℕ). Varies n m b l a q') ec (subst (λ (a : ℕ). Varies n m b l c a) eq h))
 
 -- a row of numbers more
-varies_row : (k m b l c q j : ℕ) (g : ℕ → ℕ) → ((i : ℕ) → i < j → g i ≤ m) → Varies (k + 1) m b (l + j) c q → Varies (k + 1) m b l (c + total_below j g) (q + total_below j (λ i. g i * g i))
+varies_row : (k m b l c q j : ℕ) (g : ℕ → ℕ) → ((i : ℕ) → i < j → g i ≤ m) → Varies (k + 1) m b (l + j) c q → Varies (k + 1) m b l (c + total_of_first j g) (q + total_of_first j (λ i. g i * g i))
 varies_row k m b l c q zero g r h = varies_is _ _ _ _ _ _ _ _ _ (omega arith) (omega arith) (omega arith) h
 varies_row k m b l c q (suc j) g r h =
     varies_is _ _ _ _ _ _ _ _ _ refl (omega arith) (omega arith)
-    (varies_more k m b l (c + total_below j g) (q + total_below j (λ i. g i * g i)) (g j) (r j (omega arith))
+    (varies_more k m b l (c + total_of_first j g) (q + total_of_first j (λ i. g i * g i)) (g j) (r j (omega arith))
     (varies_row k m b (l + 1) c q j g (λ i li. r i (omega arith)) (varies_is _ _ _ _ _ _ _ _ _ (omega arith) refl refl h)))
 
 -- rows of numbers
-varies_rows : (k m b l j w : ℕ) (g : ℕ → ℕ → ℕ) → ((y i : ℕ) → y < j → i < w → g y i ≤ m) → Varies (k + 1) m b (l + j * w) 0 0 → Varies (k + 1) m b l (total_below j (λ y. total_below w (g y))) (total_below j (λ y. total_below w (λ i. g y i * g y i)))
+varies_rows : (k m b l j w : ℕ) (g : ℕ → ℕ → ℕ) → ((y i : ℕ) → y < j → i < w → g y i ≤ m) → Varies (k + 1) m b (l + j * w) 0 0 → Varies (k + 1) m b l (total_of_first j (λ y. total_of_first w (g y))) (total_of_first j (λ y. total_of_first w (λ i. g y i * g y i)))
 varies_rows k m b l zero w g r h = varies_is _ _ _ _ _ _ _ _ _ (omega arith) refl refl h
 varies_rows k m b l (suc j) w g r h =
-    varies_row k m b l (total_below j (λ y. total_below w (g y))) (total_below j (λ y. total_below w (λ i. g y i * g y i))) w (g j) (λ i li. r j i (omega arith) li)
+    varies_row k m b l (total_of_first j (λ y. total_of_first w (g y))) (total_of_first j (λ y. total_of_first w (λ i. g y i * g y i))) w (g j) (λ i li. r j i (omega arith) li)
     (varies_rows k m b (l + w) j w g (λ y i ly li. r y i (omega arith) li) (varies_is _ _ _ _ _ _ _ _ _ (grind arith) refl refl h))
 
 -- the sum of a row and of rows of numbers up to m
-row_total : (j m : ℕ) (g : ℕ → ℕ) → ((i : ℕ) → i < j → g i ≤ m) → total_below j g ≤ j * m
+row_total : (j m : ℕ) (g : ℕ → ℕ) → ((i : ℕ) → i < j → g i ≤ m) → total_of_first j g ≤ j * m
 row_total zero m g r = omega arith
 row_total (suc j) m g r =
-    let rest : total_below j g ≤ j * m = row_total j m g (λ i li. r i (omega arith)) in
+    let rest : total_of_first j g ≤ j * m = row_total j m g (λ i li. r i (omega arith)) in
     let last : g j ≤ m = r j (omega arith) in
     grind arith
 
 -- the sum over a square of equal rows
 pub box_total : (n m : ℕ) (f : Table) (x y : ℕ) → ((i j : ℕ) → i < n → j < n → f (x + i) (y + j) ≤ m) → box f n x y ≤ n * (n * m)
-box_total n m f x y r = row_total n (n * m) (λ j. total_below n (λ i. f (x + i) (y + j))) (λ j lj. row_total n m (λ i. f (x + i) (y + j)) (λ i li. r i j li lj))
+box_total n m f x y r = row_total n (n * m) (λ j. total_of_first n (λ i. f (x + i) (y + j))) (λ j lj. row_total n m (λ i. f (x + i) (y + j)) (λ i li. r i j li lj))
 
 -- e of 2 * c + 1 numbers that are m, the others being 0
 starts : (c e m : ℕ) → (2 * c + 1) * (0 + e * (m * m)) ≤ c * (c + 1) * (m * m) + (0 + e * m) * (0 + e * m)

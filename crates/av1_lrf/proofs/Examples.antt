@@ -4,7 +4,7 @@ use Rattle.std.specs.Prelude.{zero, suc}
 use Rattle.av1_block.specs.declared.restoration_unit.RestorationFilter.TheVariants.{Wiener}
 use Rattle.av1_lrf.specs.Rows.{Picture, stripe, stripe_count, stripe_source, in_stripe, Scene}
 use Rattle.av1_lrf.specs.Wiener.{wiener_across, down}
-use Rattle.av1_lrf.specs.Guided.{Table, pass, guided, own_weight, mean_part}
+use Rattle.av1_lrf.specs.Guided.{Table, squared, pass, guided, own_weight, mean_part}
 use Rattle.av1_lrf.specs.Integral.{corner_sum}
 use Rattle.av1_tiling.specs.Restoration.{Units}
 use Rattle.av1_lrf.specs.Restore.{PlaneSettings, restored}
@@ -110,3 +110,8 @@ all_5 x y = 5
 pub corner_of_5 : corner_sum all_5 7 7 ≡ 245
 unfolding corner_sum
 corner_of_5 = refl
+
+-- and their squares
+pub corner_of_25 : corner_sum (squared all_5) 7 7 ≡ 1225
+unfolding corner_sum
+corner_of_25 = refl

@@ -1,6 +1,6 @@
 -- Frames that can be restored, and restored ones.
-use Rattle.std.proofs.Common.{◌≡◌, ℕ, ℤ, zero, suc, pos, Bool, ◌+◌, ◌-◌, ◌*◌, ◌/◌, ◌%◌, ◌^◌, ◌<◌, ◌≤◌, List, length, map, get_or, refl, sym, ap, subst, ◌∙◌, arith, inl, inr, lit≤, mul_comm}
-use Rattle.std.specs.Prelude.{◌⊎◌, ◌&&◌, nat_le, nat_lt, if◌then◌else◌, unwrap_or, IsSome, Option, None}
+use Rattle.std.proofs.Common.{◌≡◌, ℕ, ℤ, zero, suc, pos, ◌+◌, ◌-◌, ◌*◌, ◌/◌, ◌%◌, ◌^◌, ◌<◌, ◌≤◌, List, length, map, refl, sym, ap, subst, ◌∙◌, arith, mul_comm}
+use Rattle.std.specs.Prelude.{◌&&◌, nat_le, nat_lt, if◌then◌else◌, unwrap_or, IsSome, Option, None}
 use Rattle.std.specs.List.{range_with_len}
 use Rattle.std.proofs.lemmas.List.FromFn.{fill_by_all}
 use Rattle.std.proofs.lemmas.List.{length-map}
@@ -14,32 +14,20 @@ use Rattle.av1_plane.specs.declared.sampling.ChromaSampling.{ChromaSampling}
 use Rattle.av1_plane.specs.declared.sampling.ChromaSampling.TheVariants.{Cs420, Cs422, Cs444, Cs400}
 use Rattle.av1_plane.specs.Sampling.{decimation}
 use Rattle.av1_plane.specs.Numbers.{InDepth}
-use Rattle.av1_plane.specs.Layout.{visible, rounded, plane_layout, chroma_layout, frame_layout}
+use Rattle.av1_plane.specs.Layout.{visible, rounded, plane_layout, chroma_layout}
 use Rattle.av1_plane.specs.Place.{origin_place}
 use Rattle.av1_plane.specs.Planes.{plane_numbers}
 use Rattle.av1_tiling.specs.declared.restoration_plane.RestorationPlaneConfig.{RestorationPlaneConfig}
 use Rattle.av1_tiling.specs.Views.{PlaneView, view_plane, view_frame}
-use Rattle.av1_tiling.specs.Frames.{Parameters, FitsDepth, IsFrame, IsInputFor, IsInRange}
+use Rattle.av1_tiling.specs.Frames.{Parameters, IsFrame, IsInputFor, IsInRange}
 use Rattle.av1_tiling.specs.Restoration.{Units, HasLayout, AreUnits, AreFrameUnits}
-use Rattle.av1_tiling.specs.UnitSizes.{shifts, unit_sizes, unit_layout, unit_count, AreUnitsFor}
+use Rattle.av1_tiling.specs.UnitSizes.{unit_sizes, unit_layout, unit_count, AreUnitsFor}
 use Rattle.av1_tiling.proofs.UnitSizeFacts.{IsUnitSide, count_fits, count_reaches, luma_side, chroma_side}
-use Rattle.av1_lrf.specs.Wiener.{IsDepth}
-use Rattle.av1_lrf.specs.Rows.{sample, picture_of, HasStripePicture}
+use Rattle.av1_lrf.specs.Rows.{sample, HasStripePicture}
 use Rattle.av1_lrf.specs.Runs.{HasArea}
-use Rattle.av1_lrf.specs.Restore.{restored, is_visible, stored_sample, with_restored_picture, plane_settings, picture_in, restored_plane, restored_frame}
+use Rattle.av1_lrf.specs.Restore.{restored, stored_sample, with_restored_picture, plane_settings, picture_in, restored_plane, restored_frame}
 use Rattle.av1_lrf.specs.Units.{FitPicture}
 use Rattle.av1_lrf.specs.Frames.{CanRestore, CanRestoreFrame, IsRestoredPlane, IsRestoredFrame}
-
--- bit depths and the sample types that hold them
-pub is_depth : (limit bd : ℕ) → FitsDepth limit bd → IsDepth bd
-is_depth limit bd h = elim h [ inl a ↦ inl a.0 | inr b ↦ inr b.0 ]
-
--- a sample type holds the samples of its depth
-pub depth_limit : (limit bd : ℕ) → FitsDepth limit bd → 2 ^ bd ≤ limit
-depth_limit limit bd h = elim h [
-  | inl a ↦ rw (a.0, a.1) (lit≤ tt)
-  | inr b ↦ rw b.1 (elim b.0 [ inl e ↦ rw e (lit≤ tt) | inr e ↦ rw e (lit≤ tt) ])
-]
 
 -- a test that is met, and one that is not, by the four sides of a rectangle
 choice : (xo yo w h x y : ℕ) (a v o : ℤ) → (xo ≤ x → x < xo + w → yo ≤ y → y < yo + h → a ≡ v) → (x < xo → a ≡ o) → (xo + w ≤ x → a ≡ o) → (y < yo → a ≡ o) → (yo + h ≤ y → a ≡ o) →

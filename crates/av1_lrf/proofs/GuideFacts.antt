@@ -3,7 +3,7 @@ use Rattle.std.proofs.Common.{◌≡◌, ℕ, ◌+◌, ◌-◌, ◌*◌, ◌/◌
 use Rattle.std.proofs.Math.Nat.{div-lt_iff_lt-mul}
 use Rattle.std.proofs.lemmas.Bool.Decides.{nat_tests}
 use Rattle.av1_lrf.specs.declared.guide.Guide.{Guide}
-use Rattle.av1_lrf.specs.Integral.{HasCellRun}
+use Rattle.av1_lrf.specs.Integral.{HasSumRun}
 use Rattle.av1_lrf.specs.Guides.{index_by, cell_box, cell_weight, cell_mean, weight_at, mean_by, AtMost, HasGuides}
 
 -- a product is cut to 255
@@ -12,7 +12,7 @@ unfolding index_by
 index_small g sum squares = omega arith
 
 -- a run that is written over by another
-pub run_then : (at n : ℕ) (f g h : ℕ → ℕ) (xs ys zs : List ℕ) → HasCellRun at n f xs ys → HasCellRun at n g ys zs → ((i : ℕ) → i < n → g i ≡ h i) → HasCellRun at n h xs zs
+pub run_then : (at n : ℕ) (f g h : ℕ → ℕ) (xs ys zs : List ℕ) → HasSumRun at n f xs ys → HasSumRun at n g ys zs → ((i : ℕ) → i < n → g i ≡ h i) → HasSumRun at n h xs zs
 run_then at n f g h xs ys zs p q e = record { on = λ i l. q.on i l ∙ e i l; off = λ k o. q.off k o ∙ p.off k o; long = q.long ∙ p.long }
 
 -- cells of no rows
@@ -20,7 +20,7 @@ pub guides_none : (n : ℕ) (f : ℕ → ℕ → ℕ) (xs : List ℕ) → HasGui
 guides_none n f xs = record { each = λ i k l m. absurd (omega arith) }
 
 -- one row more
-pub guides_more : (n m : ℕ) (f : ℕ → ℕ → ℕ) (g : ℕ → ℕ) (xs ys : List ℕ) → n ≤ 66 → HasGuides n m f xs → HasCellRun (m * 66) n g xs ys → ((i : ℕ) → i < n → g i ≡ f i m) → HasGuides n (m + 1) f ys
+pub guides_more : (n m : ℕ) (f : ℕ → ℕ → ℕ) (g : ℕ → ℕ) (xs ys : List ℕ) → n ≤ 66 → HasGuides n m f xs → HasSumRun (m * 66) n g xs ys → ((i : ℕ) → i < n → g i ≡ f i m) → HasGuides n (m + 1) f ys
 guides_more n m f g xs ys small h run e = record { each = each }
   where
     each : (i k : ℕ) → i < n → k < m + 1 → get_or ys (k * 66 + i) 0 ≡ f i k
@@ -30,7 +30,7 @@ guides_more n m f g xs ys small h run e = record { each = each }
         grind (arith, nat_tests)
 
 -- a run of small numbers leaves all cells small
-pub run_most : (top at n : ℕ) (f : ℕ → ℕ) (xs ys : List ℕ) → AtMost top xs → HasCellRun at n f xs ys → ((i : ℕ) → i < n → f i ≤ top) → AtMost top ys
+pub run_most : (top at n : ℕ) (f : ℕ → ℕ) (xs ys : List ℕ) → AtMost top xs → HasSumRun at n f xs ys → ((i : ℕ) → i < n → f i ≤ top) → AtMost top ys
 run_most top at n f xs ys h run e = record { each = each }
   where
     each : (k : ℕ) → get_or ys k 0 ≤ top

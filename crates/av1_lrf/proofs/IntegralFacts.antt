@@ -2,16 +2,16 @@
 use Rattle.std.proofs.Common.{◌≡◌, ◌≢◌, ℕ, zero, suc, ◌+◌, ◌*◌, ◌<◌, ◌≤◌, ◌%◌, ◌^◌, List, length, get_or, set, get_or-set_same, get_or-set_other, length-set, refl, ◌∙◌, ap, sym, subst, arith}
 use Rattle.std.proofs.lemmas.Nat.{mul-le}
 use Rattle.std.proofs.lemmas.Bool.Decides.{nat_tests}
-use Rattle.av1_lrf.specs.Sums.{total_below}
-use Rattle.av1_lrf.specs.Integral.{HasCellRun, HasCornerSums, corner_sum}
+use Rattle.av1_lrf.specs.Sums.{total_of_first}
+use Rattle.av1_lrf.specs.Integral.{HasSumRun, HasCornerSums, corner_sum}
 use Rattle.av1_lrf.specs.Guided.{Table}
 
 -- a run of no cells
-pub cells_none : (at : ℕ) (f : ℕ → ℕ) (xs : List ℕ) → HasCellRun at 0 f xs xs
+pub cells_none : (at : ℕ) (f : ℕ → ℕ) (xs : List ℕ) → HasSumRun at 0 f xs xs
 cells_none at f xs = record { on = λ i l. absurd (omega arith); off = λ k h. refl; long = refl }
 
 -- one cell more
-pub cells_more : (at i : ℕ) (f : ℕ → ℕ) (xs ys : List ℕ) (v : ℕ) → at + i < length ys → v ≡ f i → HasCellRun at i f xs ys → HasCellRun at (i + 1) f xs (set ys (at + i) v)
+pub cells_more : (at i : ℕ) (f : ℕ → ℕ) (xs ys : List ℕ) (v : ℕ) → at + i < length ys → v ≡ f i → HasSumRun at i f xs ys → HasSumRun at (i + 1) f xs (set ys (at + i) v)
 cells_more at i f xs ys v l e h = record { on = on; off = off; long = length-set ys (at + i) v ∙ h.long }
   where
     same : get_or (set ys (at + i) v) (at + i) 0 ≡ v
@@ -31,20 +31,20 @@ cells_more at i f xs ys v l e h = record { on = on; off = off; long = length-set
     off k n = other k (n i (omega arith)) ∙ h.off k (λ j lj. n j (omega arith))
 
 -- a run of as many cells
-pub cells_size : (at m n : ℕ) (f : ℕ → ℕ) (xs ys : List ℕ) → m ≡ n → HasCellRun at m f xs ys → HasCellRun at n f xs ys
-cells_size at m n f xs ys e h = subst (λ k. HasCellRun at k f xs ys) e h
+pub cells_size : (at m n : ℕ) (f : ℕ → ℕ) (xs ys : List ℕ) → m ≡ n → HasSumRun at m f xs ys → HasSumRun at n f xs ys
+cells_size at m n f xs ys e h = subst (λ k. HasSumRun at k f xs ys) e h
 
 -- one entry more in a sum modulo 2 ^ 32
-pub total_more : (i : ℕ) (g : ℕ → ℕ) (s : ℕ) → s ≡ total_below i g % 2 ^ 32 → (s + g i) % 2 ^ 32 ≡ total_below (i + 1) g % 2 ^ 32
+pub total_more : (i : ℕ) (g : ℕ → ℕ) (s : ℕ) → s ≡ total_of_first i g % 2 ^ 32 → (s + g i) % 2 ^ 32 ≡ total_of_first (i + 1) g % 2 ^ 32
 total_more i g s e =
     let next : i + 1 ≡ suc i = omega arith in
-    let more : total_below (i + 1) g ≡ total_below i g + g i = ap (λ (n : ℕ). total_below n g) next in
+    let more : total_of_first (i + 1) g ≡ total_of_first i g + g i = ap (λ (n : ℕ). total_of_first n g) next in
     omega arith
 
 -- no column has the sum 0
-zero_rows : (n : ℕ) → total_below n (λ y. 0) ≡ 0
+zero_rows : (n : ℕ) → total_of_first n (λ y. 0) ≡ 0
 zero_rows zero = refl
-zero_rows (suc n) = let rest : total_below n (λ y. 0) ≡ 0 = zero_rows n in omega arith
+zero_rows (suc n) = let rest : total_of_first n (λ y. 0) ≡ 0 = zero_rows n in omega arith
 
 -- the sum over no column is 0
 zero_corner : (f : Table) (r : ℕ) → corner_sum f 0 r ≡ 0
@@ -60,22 +60,22 @@ pub cell_sum : (a b s t : ℕ) → a ≡ b → s ≡ t % 2 ^ 32 → (a + s) % 2 
 cell_sum a b s t e f = omega arith
 
 -- a corner sum is that of the rows above and a row
-corner_row : (f : Table) (c j : ℕ) → corner_sum f c (j + 1) ≡ corner_sum f c j + total_below c (λ i. f i j)
+corner_row : (f : Table) (c j : ℕ) → corner_sum f c (j + 1) ≡ corner_sum f c j + total_of_first c (λ i. f i j)
 unfolding corner_sum
 corner_row f c j =
     let next : j + 1 ≡ suc j = omega arith in
-    ap (λ (n : ℕ). total_below n (λ y. total_below c (λ i. f i y))) next
+    ap (λ (n : ℕ). total_of_first n (λ y. total_of_first c (λ i. f i y))) next
 
 -- sums of equal terms are equal
-same_below : (n : ℕ) (g h : ℕ → ℕ) → ((i : ℕ) → i < n → g i ≡ h i) → total_below n g ≡ total_below n h
+same_below : (n : ℕ) (g h : ℕ → ℕ) → ((i : ℕ) → i < n → g i ≡ h i) → total_of_first n g ≡ total_of_first n h
 same_below zero g h e = refl
 same_below (suc n) g h e =
-    let rest : total_below n g ≡ total_below n h = same_below n g h (λ i l. e i (omega arith)) in
+    let rest : total_of_first n g ≡ total_of_first n h = same_below n g h (λ i l. e i (omega arith)) in
     let last : g n ≡ h n = e n (omega arith) in
     omega arith
 
 -- the sums above the first row are 0
-pub corners_none : (f : Table) (step cols : ℕ) (xs ys : List ℕ) → HasCellRun 0 (cols + 1) (λ i. 0) xs ys → HasCornerSums f step cols 0 ys
+pub corners_none : (f : Table) (step cols : ℕ) (xs ys : List ℕ) → HasSumRun 0 (cols + 1) (λ i. 0) xs ys → HasCornerSums f step cols 0 ys
 unfolding corner_sum
 corners_none f step cols xs ys h = record { each = each }
   where
@@ -88,7 +88,7 @@ corners_none f step cols xs ys h = record { each = each }
         ap (λ (k : ℕ). get_or ys k 0) place ∙ h.on c lc ∙ sym rest
 
 -- one row more
-pub corners_more : (f : Table) (step cols j : ℕ) (g : ℕ → ℕ) (a b c : List ℕ) → cols < step → (j + 1) * step + cols < length a → b ≡ set a ((j + 1) * step) 0 → HasCellRun ((j + 1) * step + 1) cols (λ i. (get_or b (j * step + 1 + i) 0 + total_below (i + 1) g) % 2 ^ 32) b c → HasCornerSums f step cols j a → ((i : ℕ) → i < cols → g i ≡ f i j) → HasCornerSums f step cols (j + 1) c
+pub corners_more : (f : Table) (step cols j : ℕ) (g : ℕ → ℕ) (a b c : List ℕ) → cols < step → (j + 1) * step + cols < length a → b ≡ set a ((j + 1) * step) 0 → HasSumRun ((j + 1) * step + 1) cols (λ i. (get_or b (j * step + 1 + i) 0 + total_of_first (i + 1) g) % 2 ^ 32) b c → HasCornerSums f step cols j a → ((i : ℕ) → i < cols → g i ≡ f i j) → HasCornerSums f step cols (j + 1) c
 corners_more f step cols j g a b c wide inside made run h e = record { each = each }
   where
     next : (j + 1) * step ≡ j * step + step
@@ -120,10 +120,10 @@ corners_more f step cols j g a b c wide inside made run h e = record { each = ea
         let place : (j + 1) * step + (i + 1) ≡ (j + 1) * step + 1 + i = omega arith in
         let up : j * step + 1 + i ≡ j * step + (i + 1) = omega arith in
         let above : get_or b (j * step + 1 + i) 0 ≡ corner_sum f (i + 1) j % 2 ^ 32 = ap (λ (k : ℕ). get_or b k 0) up ∙ old (i + 1) j (omega arith) (omega arith) in
-        let same : total_below (i + 1) g ≡ total_below (i + 1) (λ k. f k j) = same_below (i + 1) g (λ k. f k j) (λ k lk. e k (omega arith)) in
-        let row : corner_sum f (i + 1) (j + 1) ≡ corner_sum f (i + 1) j + total_below (i + 1) (λ k. f k j) = corner_row f (i + 1) j in
+        let same : total_of_first (i + 1) g ≡ total_of_first (i + 1) (λ k. f k j) = same_below (i + 1) g (λ k. f k j) (λ k lk. e k (omega arith)) in
+        let row : corner_sum f (i + 1) (j + 1) ≡ corner_sum f (i + 1) j + total_of_first (i + 1) (λ k. f k j) = corner_row f (i + 1) j in
         ap (λ (k : ℕ). get_or c k 0) place ∙ run.on i li
-        ∙ wrapped_sum _ (corner_sum f (i + 1) j) _ (total_below (i + 1) (λ k. f k j)) above same
+        ∙ wrapped_sum _ (corner_sum f (i + 1) j) _ (total_of_first (i + 1) (λ k. f k j)) above same
         ∙ ap (λ (n : ℕ). n % 2 ^ 32) (sym row)
 
     each : (x r : ℕ) → x < cols + 1 → r < j + 1 + 1 → get_or c (r * step + x) 0 ≡ corner_sum f x r % 2 ^ 32

@@ -5,7 +5,7 @@ use Rattle.std.proofs.lemmas.Nat.{mul-le}
 use Rattle.std.proofs.Math.Nat.{le-div_iff_mul-le}
 use Rattle.std.proofs.lemmas.Bool.Decides.{nat_tests}
 use Rattle.av1_tiling.specs.declared.restoration.TheConstants.{SGRPROJ_PARAMS_S}
-use Rattle.av1_lrf.specs.Sums.{total_below, rounded_shift}
+use Rattle.av1_lrf.specs.Sums.{total_of_first, rounded_shift}
 use Rattle.av1_lrf.specs.Wiener.{IsDepth}
 use Rattle.av1_lrf.specs.Guided.{Table, box, squared, box_side, strength, variation, weight}
 use Rattle.av1_lrf.specs.Integral.{corner_sum}
@@ -41,40 +41,40 @@ weight_low p s = at (rounded_shift (p * s) 20)
         grind (arith, nat_tests)
 
 -- a sum in two parts
-pub total_split : (a b : ℕ) (g : ℕ → ℕ) → total_below (a + b) g ≡ total_below a g + total_below b (λ i. g (a + i))
+pub total_split : (a b : ℕ) (g : ℕ → ℕ) → total_of_first (a + b) g ≡ total_of_first a g + total_of_first b (λ i. g (a + i))
 total_split a zero g =
     let e : a + 0 ≡ a = omega arith in
-    let z : total_below a g ≡ total_below a g + 0 = omega arith in
-    ap (λ (n : ℕ). total_below n g) e ∙ z
+    let z : total_of_first a g ≡ total_of_first a g + 0 = omega arith in
+    ap (λ (n : ℕ). total_of_first n g) e ∙ z
 total_split a (suc b) g =
     let e : a + suc b ≡ suc (a + b) = omega arith in
-    let rest : total_below (a + b) g ≡ total_below a g + total_below b (λ i. g (a + i)) = total_split a b g in
-    let last : total_below (a + b) g + g (a + b) ≡ total_below a g + (total_below b (λ i. g (a + i)) + g (a + b)) = omega arith in
-    ap (λ (n : ℕ). total_below n g) e ∙ last
+    let rest : total_of_first (a + b) g ≡ total_of_first a g + total_of_first b (λ i. g (a + i)) = total_split a b g in
+    let last : total_of_first (a + b) g + g (a + b) ≡ total_of_first a g + (total_of_first b (λ i. g (a + i)) + g (a + b)) = omega arith in
+    ap (λ (n : ℕ). total_of_first n g) e ∙ last
 
 -- a sum of sums
-total_sum : (n : ℕ) (g h : ℕ → ℕ) → total_below n (λ i. g i + h i) ≡ total_below n g + total_below n h
+total_sum : (n : ℕ) (g h : ℕ → ℕ) → total_of_first n (λ i. g i + h i) ≡ total_of_first n g + total_of_first n h
 total_sum zero g h = refl
 total_sum (suc n) g h =
-    let rest : total_below n (λ i. g i + h i) ≡ total_below n g + total_below n h = total_sum n g h in
+    let rest : total_of_first n (λ i. g i + h i) ≡ total_of_first n g + total_of_first n h = total_sum n g h in
     omega arith
 
 -- sums of equal terms are equal
-total_same : (n : ℕ) (g h : ℕ → ℕ) → ((i : ℕ) → g i ≡ h i) → total_below n g ≡ total_below n h
+total_same : (n : ℕ) (g h : ℕ → ℕ) → ((i : ℕ) → g i ≡ h i) → total_of_first n g ≡ total_of_first n h
 total_same zero g h e = refl
-total_same (suc n) g h e = ap (λ a. a + g n) (total_same n g h e) ∙ ap (λ a. total_below n h + a) (e n)
+total_same (suc n) g h e = ap (λ a. a + g n) (total_same n g h e) ∙ ap (λ a. total_of_first n h + a) (e n)
 
 -- the four corners of a rectangle
-pub corners : (f : Table) (x y n m : ℕ) → corner_sum f (x + n) (y + m) + corner_sum f x y ≡ corner_sum f (x + n) y + corner_sum f x (y + m) + total_below m (λ j. total_below n (λ i. f (x + i) (y + j)))
+pub corners : (f : Table) (x y n m : ℕ) → corner_sum f (x + n) (y + m) + corner_sum f x y ≡ corner_sum f (x + n) y + corner_sum f x (y + m) + total_of_first m (λ j. total_of_first n (λ i. f (x + i) (y + j)))
 unfolding corner_sum
 corners f x y n m =
-    let wide = λ (j : ℕ). total_below (x + n) (λ i. f i j) in
-    let thin = λ (j : ℕ). total_below x (λ i. f i j) in
-    let part = λ (j : ℕ). total_below n (λ i. f (x + i) (y + j)) in
-    let rows : total_below (y + m) wide ≡ total_below y wide + total_below m (λ j. wide (y + j)) = total_split y m wide in
-    let lines : total_below (y + m) thin ≡ total_below y thin + total_below m (λ j. thin (y + j)) = total_split y m thin in
-    let each : total_below m (λ j. wide (y + j)) ≡ total_below m (λ j. thin (y + j) + part j) = total_same m (λ j. wide (y + j)) (λ j. thin (y + j) + part j) (λ j. total_split x n (λ i. f i (y + j))) in
-    let both : total_below m (λ j. thin (y + j) + part j) ≡ total_below m (λ j. thin (y + j)) + total_below m part = total_sum m (λ j. thin (y + j)) part in
+    let wide = λ (j : ℕ). total_of_first (x + n) (λ i. f i j) in
+    let thin = λ (j : ℕ). total_of_first x (λ i. f i j) in
+    let part = λ (j : ℕ). total_of_first n (λ i. f (x + i) (y + j)) in
+    let rows : total_of_first (y + m) wide ≡ total_of_first y wide + total_of_first m (λ j. wide (y + j)) = total_split y m wide in
+    let lines : total_of_first (y + m) thin ≡ total_of_first y thin + total_of_first m (λ j. thin (y + j)) = total_split y m thin in
+    let each : total_of_first m (λ j. wide (y + j)) ≡ total_of_first m (λ j. thin (y + j) + part j) = total_same m (λ j. wide (y + j)) (λ j. thin (y + j) + part j) (λ j. total_split x n (λ i. f i (y + j))) in
+    let both : total_of_first m (λ j. thin (y + j) + part j) ≡ total_of_first m (λ j. thin (y + j)) + total_of_first m part = total_sum m (λ j. thin (y + j)) part in
     omega arith
 
 -- a wrapping difference is the number itself where that fits

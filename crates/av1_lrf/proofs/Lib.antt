@@ -1,5 +1,6 @@
 pub mod Examples
 pub mod Products
+pub mod DepthFacts
 pub mod RunFacts
 pub mod RowFacts
 pub mod StripeFacts

@@ -6,7 +6,7 @@ use Rattle.av1_lrf.specs.declared.mix.Mix.{Mix}
 use Rattle.av1_lrf.specs.Sums.{round2}
 use Rattle.av1_lrf.specs.Wiener.{reduced}
 use Rattle.av1_lrf.specs.Taps.{rounding_of}
-use Rattle.av1_lrf.specs.Guides.{mixed, finished}
+use Rattle.av1_lrf.specs.Guides.{mixed, finished, pass_result}
 use Rattle.av1_lrf.proofs.Products.{limited_low, limited_high}
 
 -- three products, rounded
@@ -45,3 +45,13 @@ finished_at m a2 b2 a1 b1 xs from stride x y i j =
     ap (λ (k : ℕ). finished m (j % 2 == 1) a2 b2 a1 b1 (j / 2 * 66 + i) (j * 66 + i) (unsigned_abs (sample xs k))) place
     ∙ ap (λ (k : ℕ). finished m (k % 2 == 1) a2 b2 a1 b1 (k / 2 * 66 + i) (k * 66 + i) (unsigned_abs (sample xs (from + (y + j) * stride + (x + i))))) row
     ∙ ap (λ (k : ℕ). finished m ((y + j - y) % 2 == 1) a2 b2 a1 b1 ((y + j - y) / 2 * 66 + k) ((y + j - y) * 66 + k) (unsigned_abs (sample xs (from + (y + j) * stride + (x + i))))) col
+
+-- a first pass of strength 0 reads no cells
+pub finished_without_strong : (m : Mix) (odd : Bool) (a2 b2 c2 d2 a1 b1 : List ℕ) (p q v : ℕ) → m.strong ≡ 0 → finished m odd a2 b2 a1 b1 p q v ≡ finished m odd c2 d2 a1 b1 p q v
+unfolding finished pass_result
+finished_without_strong m odd a2 b2 c2 d2 a1 b1 p q v e = rw e refl
+
+-- nor does a second one
+pub finished_without_weak : (m : Mix) (odd : Bool) (a2 b2 a1 b1 c1 d1 : List ℕ) (p q v : ℕ) → m.weak ≡ 0 → finished m odd a2 b2 a1 b1 p q v ≡ finished m odd a2 b2 c1 d1 p q v
+unfolding finished pass_result
+finished_without_weak m odd a2 b2 a1 b1 c1 d1 p q v e = rw e refl

@@ -8,21 +8,21 @@ use Rattle.av1_plane.specs.declared.plane.Plane.{Plane}
 use Rattle.av1_plane.specs.Numbers.{InDepth}
 use Rattle.av1_lrf.specs.Rows.{sample, scene_in, stripe_source, in_stripe, nearest_in_stripe, HasStripePicture}
 use Rattle.av1_lrf.specs.Runs.{HasArea, HasRowRoom}
-use Rattle.av1_lrf.specs.Sums.{total_below, rounded_shift, round2, limited}
+use Rattle.av1_lrf.specs.Sums.{total_of_first, rounded_shift, round2, limited}
 use Rattle.av1_lrf.specs.Guided.{Table, box, squared, box_side, count, strength, variation, weight, weighted_mean, own_weight, mean_part, around, around_bits, pass, guided}
 use Rattle.av1_lrf.proofs.StripeFacts.{above_row, inside_row, below_row}
 
 -- sums of equal terms are equal
-total_same : (n : ℕ) (f g : ℕ → ℕ) → ((i : ℕ) → f i ≡ g i) → total_below n f ≡ total_below n g
+total_same : (n : ℕ) (f g : ℕ → ℕ) → ((i : ℕ) → f i ≡ g i) → total_of_first n f ≡ total_of_first n g
 total_same zero f g e = refl
 total_same (suc n) f g e =
-    let rest : total_below n f ≡ total_below n g = total_same n f g e in
+    let rest : total_of_first n f ≡ total_of_first n g = total_same n f g e in
     let last : f n ≡ g n = e n in
     omega arith
 
 -- sums over squares of equal samples are equal
 box_same : (f g : Table) (n x y x' y' : ℕ) → ((i j : ℕ) → f (x + i) (y + j) ≡ g (x' + i) (y' + j)) → box f n x y ≡ box g n x' y'
-box_same f g n x y x' y' e = total_same n (λ j. total_below n (λ i. f (x + i) (y + j))) (λ j. total_below n (λ i. g (x' + i) (y' + j))) (λ j. total_same n (λ i. f (x + i) (y + j)) (λ i. g (x' + i) (y' + j)) (λ i. e i j))
+box_same f g n x y x' y' e = total_same n (λ j. total_of_first n (λ i. f (x + i) (y + j))) (λ j. total_of_first n (λ i. g (x' + i) (y' + j))) (λ j. total_same n (λ i. f (x + i) (y + j)) (λ i. g (x' + i) (y' + j)) (λ i. e i j))
 
 -- the sum over a square of a part of a table
 box_shift : (f g : Table) (n r x0 y0 x y : ℕ) → ((i j : ℕ) → f i j ≡ g (x0 + i) (y0 + j)) → r ≤ x → r ≤ y → box f n (x - r) (y - r) ≡ box g n (x0 + x - r) (y0 + y - r)

@@ -1,5 +1,5 @@
 -- A stripe that ends below the picture reads the same rows wherever it ends there.
-use Rattle.std.proofs.Common.{◌≡◌, ℕ, ℤ, ◌+◌, ◌-◌, ◌<◌, ◌≤◌, List, min, max, ap, arith}
+use Rattle.std.proofs.Common.{◌≡◌, ℕ, ℤ, ◌+◌, ◌<◌, ◌≤◌, List, min, ap, arith}
 use Rattle.std.proofs.lemmas.Bool.Decides.{nat_tests}
 use Rattle.av1_plane.specs.declared.plane.Plane.{Plane}
 use Rattle.av1_tiling.specs.Restoration.{across_coeffs, down_coeffs}

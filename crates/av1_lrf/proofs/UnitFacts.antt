@@ -5,7 +5,6 @@ use Rattle.std.proofs.Math.Nat.{le-div_iff_mul-le}
 use Rattle.std.proofs.lemmas.Bool.Decides.{nat_tests}
 use Rattle.std.specs.Prelude.{length}
 use Rattle.std.specs.List.{slice_index_or}
-use Rattle.av1_block.specs.declared.restoration_unit.RestorationUnit.{RestorationUnit}
 use Rattle.av1_block.specs.RestorationUnit.{no_unit}
 use Rattle.av1_tiling.specs.Restoration.{Units, unit_row, unit_by_stripe, IsUnit}
 use Rattle.av1_lrf.specs.Units.{edge, FitPicture}

@@ -6,7 +6,7 @@
 use Rattle.std.specs.Prelude.{ℕ, ℤ, pos, ◌+◌, ◌-◌, ◌*◌, ◌/◌, ◌^◌, ◌+ℤ◌, ◌-ℤ◌, ◌*ℤ◌, Bool, List, [], nat_le, ◌==◌, if◌then◌else◌}
 use Rattle.std.specs.List.{slice_index_or}
 use Rattle.av1_tiling.specs.declared.restoration.TheConstants.{SGRPROJ_PARAMS_S}
-use Rattle.av1_lrf.specs.Sums.{total_below, rounded_shift, round2, limited}
+use Rattle.av1_lrf.specs.Sums.{total_of_first, rounded_shift, round2, limited}
 use Rattle.av1_lrf.specs.Rows.{sample}
 
 -- the sample at each column and row
@@ -31,7 +31,7 @@ one_by n = (2 ^ 12 + n / 2) / n
 
 -- the sum over the square of side n whose first column and row these are
 abbrev pub box : Table → ℕ → ℕ → ℕ → ℕ
-box f n x y = total_below n (λ j. total_below n (λ i. f (x + i) (y + j)))
+box f n x y = total_of_first n (λ j. total_of_first n (λ i. f (x + i) (y + j)))
 
 -- the squares of a table
 abbrev pub squared : Table → Table

@@ -2,12 +2,12 @@
 use Rattle.std.specs.Prelude.{ℕ, ℤ, ◌+◌, ◌*◌, ◌%◌, ◌^◌, ◌<◌, ◌≡◌, ◌≢◌, List, length, unsigned_abs, Bool, if◌then◌else◌}
 use Rattle.av1_lrf.specs.Rows.{sample, nearest_in_stripe, Scene, stripe_source}
 use Rattle.std.specs.List.{slice_index_or}
-use Rattle.av1_lrf.specs.Sums.{total_below}
+use Rattle.av1_lrf.specs.Sums.{total_of_first}
 use Rattle.av1_lrf.specs.Guided.{Table}
 
 -- the sum over the first c columns of the first r rows
 unfoldable pub corner_sum : Table → ℕ → ℕ → ℕ
-corner_sum f c r = total_below r (λ y. total_below c (λ x. f x y))
+corner_sum f c r = total_of_first r (λ y. total_of_first c (λ x. f x y))
 
 -- a cell of a list, 0 past its end
 abbrev pub cell : List ℕ → ℕ → ℕ
@@ -18,7 +18,7 @@ pub record HasCornerSums (f : Table) (step cols rows : ℕ) (cells : List ℕ) :
   pub each : (c r : ℕ) → c < cols + 1 → r < rows + 1 → cell cells (r * step + c) ≡ corner_sum f c r % 2 ^ 32
 
 -- After is before with n cells from `at` on as given, and all else as it was.
-pub record HasCellRun (at n : ℕ) (value : ℕ → ℕ) (before after : List ℕ) : Type 0 where
+pub record HasSumRun (at n : ℕ) (value : ℕ → ℕ) (before after : List ℕ) : Type 0 where
   pub on : (i : ℕ) → i < n → cell after (at + i) ≡ value i
   pub off : (k : ℕ) → ((i : ℕ) → i < n → k ≢ at + i) → cell after k ≡ cell before k
   pub long : length after ≡ length before

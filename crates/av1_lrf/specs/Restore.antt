@@ -1,5 +1,5 @@
 -- Which filter restores a sample, and a restored plane and frame (AV1 specification, section 7.17).
-use Rattle.std.specs.Prelude.{ℕ, ℤ, pos, ◌+◌, ◌-◌, ◌*◌, ◌/◌, ◌%◌, ◌<◌, ◌≤◌, ◌≡◌, length, map, min, Bool, ◌&&◌, List, ◌==◌, nat_le, nat_lt, if◌then◌else◌, unsigned_abs}
+use Rattle.std.specs.Prelude.{ℕ, ℤ, ◌+◌, ◌-◌, ◌/◌, ◌%◌, length, map, Bool, ◌&&◌, List, ◌==◌, nat_le, nat_lt, if◌then◌else◌, unsigned_abs}
 use Rattle.std.specs.List.{range_with_len}
 use Rattle.av1_plane.specs.declared.plane.PlaneConfig.{PlaneConfig}
 use Rattle.av1_plane.specs.declared.three.Three.{Three}

@@ -8,9 +8,9 @@ sum_of_first zero f = pos 0
 sum_of_first (suc n) f = sum_of_first n f +ℤ f n
 
 -- the same of natural numbers
-abbrev pub total_below : ℕ → (ℕ → ℕ) → ℕ
-total_below zero f = 0
-total_below (suc n) f = total_below n f + f n
+abbrev pub total_of_first : ℕ → (ℕ → ℕ) → ℕ
+total_of_first zero f = 0
+total_of_first (suc n) f = total_of_first n f + f n
 
 -- v / 2 ^ n, rounded
 abbrev pub round2 : ℤ → ℕ → ℤ

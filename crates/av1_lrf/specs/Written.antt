@@ -8,7 +8,7 @@ use Rattle.av1_plane.specs.Place.{origin_place}
 use Rattle.av1_plane.specs.Slices.{slice_start}
 use Rattle.av1_plane.specs.Planes.{plane_numbers}
 use Rattle.av1_plane.specs.Region.{first_place, row_step, area, numbers_under}
-use Rattle.av1_lrf.specs.Rows.{sample, Scene, scene_in}
+use Rattle.av1_lrf.specs.Rows.{sample, scene_in}
 use Rattle.av1_lrf.specs.Runs.{HasArea, HasRowRoom}
 use Rattle.av1_lrf.specs.Integral.{source_from}
 use Rattle.av1_lrf.specs.Guided.{Table, guided}

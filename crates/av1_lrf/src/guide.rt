@@ -1,5 +1,5 @@
 ghost use Rattle.std.specs.Prelude.{◌≡◌, ◌+◌, ◌-◌, ◌*◌, ◌/◌, ◌%◌, ◌<◌, ◌≤◌, ◌^◌, ℕ, length};
-ghost use Rattle.av1_lrf.specs.Integral.{cell, HasCellRun};
+ghost use Rattle.av1_lrf.specs.Integral.{cell, HasSumRun};
 ghost use Rattle.av1_lrf.specs.Guides.{cell_box, rounded_32, weight_at, index_by, mean_by, cell_weight, cell_mean, IsGuide, AtMost, HasGuides, AreWeights};
 
 /// The numbers of a pass: the side of its squares, how many samples these have and 4096 divided
@@ -90,9 +90,9 @@ fn index_row(
     requires guide { IsGuide g }
     requires cells { at + g.side * step + g.side + n ≤ length cells.now }
     requires squares { at + g.side * step + g.side + n ≤ length squares.now }
-    ensures a { HasCellRun to n (λ i. index_by g (cell_box cells.now (at + i) step g.side)
+    ensures a { HasSumRun to n (λ i. index_by g (cell_box cells.now (at + i) step g.side)
         (cell_box squares.now (at + i) step g.side)) a.old a.new }
-    ensures b { HasCellRun to n (λ i. cell_box cells.now (at + i) step g.side) b.old b.new }
+    ensures b { HasSumRun to n (λ i. cell_box cells.now (at + i) step g.side) b.old b.new }
 {
     let _length = cells.len();
     for i in 0..n {
@@ -110,7 +110,7 @@ fn weigh_row(a: &mut [u32], to: usize, n: usize, weights: &[u32])
     requires a { to + n ≤ length a.old }
     requires weights { AreWeights weights.now }
     requires small { (i : ℕ) → i < n → cell a.old (to + i) ≤ 255 }
-    ensures { HasCellRun to n (λ i. weight_at (cell a.old (to + i))) a.old a.new }
+    ensures { HasSumRun to n (λ i. weight_at (cell a.old (to + i))) a.old a.new }
 {
     for i in 0..n {
         let z = a[to + i].min(255) as usize;
@@ -124,7 +124,7 @@ fn weigh_row(a: &mut [u32], to: usize, n: usize, weights: &[u32])
 fn mean_row(b: &mut [u32], a: &[u32], to: usize, n: usize, one_by: u32)
     requires b { to + n ≤ length b.old }
     requires a { to + n ≤ length a.now }
-    ensures { HasCellRun to n (λ i. mean_by one_by (cell a.now (to + i)) (cell b.old (to + i)))
+    ensures { HasSumRun to n (λ i. mean_by one_by (cell a.now (to + i)) (cell b.old (to + i)))
         b.old b.new }
 {
     for i in 0..n {
@@ -152,9 +152,9 @@ fn guide_row(
     requires cells { at + g.side * step + g.side + n ≤ length cells.now }
     requires squares { at + g.side * step + g.side + n ≤ length squares.now }
     requires weights { AreWeights weights.now }
-    ensures a { HasCellRun to n (λ i. cell_weight g cells.now squares.now step (at + i)) a.old
+    ensures a { HasSumRun to n (λ i. cell_weight g cells.now squares.now step (at + i)) a.old
         a.new }
-    ensures b { HasCellRun to n (λ i. cell_mean g cells.now squares.now step (at + i)) b.old b.new }
+    ensures b { HasSumRun to n (λ i. cell_mean g cells.now squares.now step (at + i)) b.old b.new }
 {
     index_row(a, b, to, n, cells, squares, at, step, g);
     weigh_row(a, to, n, weights);

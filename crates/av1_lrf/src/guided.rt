@@ -69,6 +69,7 @@ fn finish_row<T: Pixel>(
     }
 }
 
+// A row, even or odd.
 #[inline(always)]
 fn finish_line<T: Pixel>(
     out: &mut [T],
@@ -107,6 +108,50 @@ fn finish_line<T: Pixel>(
         finish_row(out, at, n, xs, from, a2, b2, a1, b1, p, q, true, m);
     } else {
         finish_row(out, at, n, xs, from, a2, b2, a1, b1, p, q, false, m);
+    }
+}
+
+// A pass of strength 0 reads no cells. It gets those of the other pass, so that the strengths are
+// tested once a row and not for each sample.
+fn finish_by_strengths<T: Pixel>(
+    out: &mut [T],
+    at: usize,
+    n: usize,
+    xs: &[T],
+    from: usize,
+    a2: &[u32],
+    b2: &[u32],
+    a1: &[u32],
+    b1: &[u32],
+    p: usize,
+    q: usize,
+    odd: bool,
+    m: Mix,
+)
+    requires out { at + n ≤ length out.old }
+    requires xs { from + n ≤ length xs.now }
+    requires mix { IsMix m }
+    requires high { m.limits.high <ℤ pos T.limit }
+    requires a2 { AtMost 256 a2.now }
+    requires b2 { AtMost 1048576 b2.now }
+    requires a1 { AtMost 256 a1.now }
+    requires b1 { AtMost 1048576 b1.now }
+    requires long_a2 { length a2.now ≡ 4356 }
+    requires long_b2 { length b2.now ≡ 4356 }
+    requires long_a1 { length a1.now ≡ 4356 }
+    requires long_b1 { length b1.now ≡ 4356 }
+    requires p { p + n + 68 ≤ 4356 }
+    requires q { q + n + 134 ≤ 4356 }
+    ensures { HasSampleRun at n (λ i. finished m odd a2.now b2.now a1.now b1.now (p + i) (q + i)
+        (unsigned_abs (sample (map T.number xs.now) (from + i)))) (map T.number out.old) (map
+        T.number out.new) }
+{
+    if m.strong == 0 {
+        finish_line(out, at, n, xs, from, a1, b1, a1, b1, p, q, odd, m);
+    } else if m.weak == 0 {
+        finish_line(out, at, n, xs, from, a2, b2, a2, b2, p, q, odd, m);
+    } else {
+        finish_line(out, at, n, xs, from, a2, b2, a1, b1, p, q, odd, m);
     }
 }
 
@@ -157,7 +202,7 @@ fn finish_rows<T: Pixel>(
     for j in 0..rows {
         let to = origin + (y + j) * step + x;
         let at = from + (y + j) * stride + x;
-        finish_line(
+        finish_by_strengths(
             out,
             to,
             n,

@@ -1,8 +1,8 @@
 ghost use Rattle.std.specs.Prelude.{◌≡◌, ◌+◌, ◌-◌, ◌*◌, ◌%◌, ◌<◌, ◌≤◌, ◌^◌, ℕ, length, map, unsigned_abs, if◌then◌else◌};
-ghost use Rattle.av1_lrf.specs.Sums.{total_below};
+ghost use Rattle.av1_lrf.specs.Sums.{total_of_first};
 ghost use Rattle.av1_lrf.specs.Guided.{Table};
 ghost use Rattle.av1_lrf.specs.Rows.{sample, nearest_in_stripe};
-ghost use Rattle.av1_lrf.specs.Integral.{cell, row_entry, HasCellRun, HasCornerSums, source_from, squared_if};
+ghost use Rattle.av1_lrf.specs.Integral.{cell, row_entry, HasSumRun, HasCornerSums, source_from, squared_if};
 ghost use Rattle.av1_lrf.specs.Taps.{scene_by, CanLook};
 
 use crate::rows::{Extent, source_row};
@@ -36,7 +36,7 @@ fn sum_row<T: Pixel>(
     requires apart { from + n < to + 1 }
     requires cells { to + n < length cells.old }
     requires near { at + n ≤ 2 ^ 33 }
-    ensures { HasCellRun (to + 1) n (λ i. (cell cells.old (from + 1 + i) + total_below (i + 1)
+    ensures { HasSumRun (to + 1) n (λ i. (cell cells.old (from + 1 + i) + total_of_first (i + 1)
         (row_entry squared (map T.number row.now) at)) % 2 ^ 32) cells.old cells.new }
 {
     let width = row.len();
@@ -51,7 +51,7 @@ fn sum_row<T: Pixel>(
 #[tactic(auto, using(crate::proofs::IntegralFacts::sums))]
 fn clear_row(cells: &mut [u32], n: usize)
     requires { n ≤ length cells.old }
-    ensures { HasCellRun 0 n (λ i. 0) cells.old cells.new }
+    ensures { HasSumRun 0 n (λ i. 0) cells.old cells.new }
 {
     for i in 0..n {
         cells[i] = 0;

@@ -1,10 +1,10 @@
 ghost use Rattle.std.specs.Prelude.{◌≡◌, ◌+◌, ◌*◌, ◌%◌, ◌<◌, ◌≤◌, ◌^◌, ◌==◌, ◌≤ℤ◌, ℕ, pos, length, replicate, IfOk, unsigned_abs};
 ghost use Rattle.av1_plane.specs.Planes.{plane_numbers};
 ghost use Rattle.av1_plane.specs.Region.{first_place, row_step, area, samples_under, numbers_under, IsStored, IsSamePart};
+ghost use Rattle.av1_tiling.specs.Frames.{FitsDepth};
 ghost use Rattle.av1_lrf.specs.Rows.{sample, scene_in, HasShape};
 ghost use Rattle.av1_lrf.specs.Integral.{HasCornerSums, source_from};
 ghost use Rattle.av1_lrf.specs.Runs.{HasArea, HasRowRoom};
-ghost use Rattle.av1_lrf.specs.Wiener.{IsDepth};
 ghost use Rattle.av1_lrf.specs.Guided.{Table, squared, guided};
 ghost use Rattle.av1_lrf.specs.Guides.{HasTable};
 ghost use Rattle.av1_lrf.specs.Written.{FillsRegion, slice_width, slice_height, slice_table, guided_slice, HoldsRectangle, HoldsSums};
@@ -38,8 +38,7 @@ pub fn sgrproj_stripe_filter<T: Pixel, U: Pixel>(
     out: &mut PlaneRegionMut<'_, U>,
 )
     requires set { set < 16 }
-    requires depth { IsDepth fi.now.sequence.bit_depth }
-    requires limit { 2 ^ fi.now.sequence.bit_depth ≤ U.limit }
+    requires depth { FitsDepth U.limit fi.now.sequence.bit_depth }
     requires stored { IsStored out.old }
     requires wide { (area out.old).width ≤ 2 ^ 32 }
     requires high { (area out.old).height ≤ 2 ^ 32 }

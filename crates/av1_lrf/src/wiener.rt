@@ -4,6 +4,7 @@ ghost use Rattle.av1_plane.specs.Planes.{plane_numbers};
 ghost use Rattle.av1_lrf.specs.Rows.{scene_in, HasStripePicture};
 ghost use Rattle.av1_lrf.specs.Runs.{HasArea};
 ghost use Rattle.av1_lrf.specs.Written.{FillsPart};
+ghost use Rattle.av1_tiling.specs.Frames.{FitsDepth};
 ghost use Rattle.av1_tiling.specs.Restoration.{across_coeffs, down_coeffs, AreCoeffs};
 ghost use Rattle.av1_lrf.specs.Wiener.{wiener, IsDepth};
 ghost use Rattle.av1_lrf.specs.Taps.{down_by, scene_by, CanReadStripe, IsTapFilter, IsWiener};
@@ -141,8 +142,7 @@ pub fn wiener_stripe_filter<T: Pixel>(
 )
     requires down { AreCoeffs (down_coeffs coeffs) }
     requires across { AreCoeffs (across_coeffs coeffs) }
-    requires depth { IsDepth fi.now.sequence.bit_depth }
-    requires limit { 2 ^ fi.now.sequence.bit_depth ≤ T.limit }
+    requires depth { FitsDepth T.limit fi.now.sequence.bit_depth }
     requires enhanced { HasStripePicture T.number (2 ^ fi.now.sequence.bit_depth) crop_w crop_h
         cdeffed.now }
     requires deblocked { HasStripePicture T.number (2 ^ fi.now.sequence.bit_depth) crop_w crop_h

@@ -1,11 +1,12 @@
-use Rattle.std.proofs.Common.{◌≡◌, sym, subst, ap}
+use Rattle.std.proofs.Common.{◌≡◌, sym, subst}
 use Rattle.av1_tiling.specs.Frames.{Parameters}
 use Rattle.av1_tiling.specs.Restoration.{units_in}
 use Rattle.av1_lrf.specs.Wiener.{IsDepth}
 use Rattle.av1_lrf.specs.Frames.{CanRestoreFrame, IsRestoredFrame}
 use Rattle.std.specs.Prelude.{◌<◌, ◌≤◌, ◌^◌, IsSome, None}
 use Rattle.av1_plane.specs.Sampling.{decimation}
-use Rattle.av1_lrf.proofs.FrameFacts.{is_depth, depth_limit, can_restore_frame, restored_frame_is}
+use Rattle.av1_lrf.proofs.DepthFacts.{is_depth, depth_limit}
+use Rattle.av1_lrf.proofs.FrameFacts.{can_restore_frame, restored_frame_is}
 use Rattle.av1_lrf.proofs.frame.lrf_filter_frame.Goals as goal
 
 pub restore_copy-requires-clause-can : goal.restore_copy-requires-clause-can

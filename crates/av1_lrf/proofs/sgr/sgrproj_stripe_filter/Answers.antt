@@ -7,8 +7,14 @@ use Rattle.av1_lrf.specs.Rows.{sample}
 use Rattle.av1_tiling.specs.Frames.{Parameters}
 use Rattle.av1_lrf.specs.Guided.{guided}
 use Rattle.av1_lrf.specs.Guides.{IsPass, IsMixOf}
+use Rattle.av1_lrf.specs.Wiener.{IsDepth}
+use Rattle.av1_lrf.proofs.DepthFacts.{is_depth}
 use Rattle.av1_lrf.proofs.SgrFacts.{plan_is, stripe_is, whole_run}
 use Rattle.av1_lrf.proofs.sgr.sgrproj_stripe_filter.Goals as goal
+
+pub plan_of-plan-requires-clause-depth : goal.plan_of-plan-requires-clause-depth
+plan_of-plan-requires-clause-depth g c =
+    subst (λ (p : Parameters). IsDepth p.sequence.bit_depth) (sym c.fi.view_is) (is_depth g.U.Pixel.limit c.args.fi.now.sequence.bit_depth c.requires.depth)
 
 pub returns-clause-value : goal.returns-clause-value
 returns-clause-value g c = λ f h.
@@ -26,7 +32,7 @@ returns-clause-value g c = λ f h.
     let from = c.place-from.ensures in
     let made = c.guided_stripe.ensures.value bd c.args.set c.args.xqd f
     (plan_is bd c.args.set c.args.xqd f c.plan_of-plan.result c.args.stride (area c.args.out.now).width (area c.args.out.now).height c.rect.result.now.width c.rect-2.result.now.height c.args.buffer.now.integral_image.items c.args.buffer.now.sq_integral_image.items c.as_slice-2.result.now c.as_slice-3.result.now
-    ew eh (sym c.as_slice-2.ensures.value) (sym c.as_slice-3.ensures.value) c.requires.depth two one mix h) in
+    ew eh (sym c.as_slice-2.ensures.value) (sym c.as_slice-3.ensures.value) (is_depth g.U.Pixel.limit bd c.requires.depth) two one mix h) in
     let long : length c.guided_stripe.new.out ≡ length (samples_under c.args.out.now) =
     sym (length-map c.guided_stripe.new.out number) ∙ made.long ∙ length-map c.store_mut-rows.result.now number ∙ ap length c.store_mut-rows.ensures.all in
     stripe_is _ _ _ _ _ _ _ _ _ _ _ _ _ _ c.first_row-origin.ensures c.between_rows-step.ensures (sym ew) (sym eh) (ap (map number) c.store_mut-rows.ensures.all) (sym (whole_run number c.args.out.now c.guided_stripe.new.out long))

@@ -1,11 +1,21 @@
-use Rattle.std.proofs.Common.{◌≡◌, ◌+◌, FitsSigned, ap, min, arith}
+use Rattle.std.proofs.Common.{◌≡◌, ◌+◌, ◌^◌, ◌≤◌, FitsSigned, ap, sym, subst, arith}
 use mir.Syntax.{w64}
 use Rattle.std.specs.Prelude.{unsigned_abs}
 use Rattle.std.proofs.lemmas.Int.{to_z-of_z}
 use Rattle.av1_tiling.specs.Frames.{Parameters}
+use Rattle.av1_lrf.specs.Wiener.{IsDepth}
+use Rattle.av1_lrf.proofs.DepthFacts.{is_depth, depth_limit}
 use Rattle.av1_lrf.proofs.AreaFacts.{area_is, area_same}
 use Rattle.av1_lrf.proofs.StopFacts.{wiener_stop}
 use Rattle.av1_lrf.proofs.wiener.wiener_stripe_filter.Goals as goal
+
+pub wiener_stripe-requires-clause-depth : goal.wiener_stripe-requires-clause-depth
+wiener_stripe-requires-clause-depth g c =
+    subst (λ (p : Parameters). IsDepth p.sequence.bit_depth) (sym c.fi.view_is) (is_depth g.T.Pixel.limit c.args.fi.now.sequence.bit_depth c.requires.depth)
+
+pub wiener_stripe-requires-clause-limit : goal.wiener_stripe-requires-clause-limit
+wiener_stripe-requires-clause-limit g c =
+    subst (λ (p : Parameters). 2 ^ p.sequence.bit_depth ≤ g.T.Pixel.limit) (sym c.fi.view_is) (depth_limit g.T.Pixel.limit c.args.fi.now.sequence.bit_depth c.requires.depth)
 
 pub returns-clause-value : goal.returns-clause-value
 returns-clause-value g c =

@@ -1,5 +1,4 @@
-use Rattle.std.proofs.Common.{arith, sym, lit≤}
-use Rattle.av1_lrf.specs.Rows.{HasShape}
+use Rattle.std.proofs.Common.{arith}
 use Rattle.av1_lrf.proofs.vert_padded.VertPaddedIter.new.Goals as goal
 
 pub invariant_of-result : goal.invariant_of-result
