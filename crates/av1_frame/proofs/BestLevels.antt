@@ -1,11 +1,9 @@
 -- The lowest level of least error is one number, and planes of a frame can be compared with their source.
-use Rattle.std.proofs.Common.{◌≡◌, ℕ, zero, suc, ℤ, pos, negsuc, ◌+◌, ◌-◌, ◌*◌, ◌/◌, ◌^◌, ◌<◌, ◌≤◌, inl, inr, List, [], ◌∷◌, length, map, drop, get_or, All, Bool, true, false, refl, sym, ap, ◌∙◌, subst, arith}
-use Rattle.std.specs.Prelude.{nat_lt, if◌then◌else◌}
+use Rattle.std.proofs.Common.{◌≡◌, ℕ, zero, suc, ℤ, pos, negsuc, ◌+◌, ◌*◌, ◌/◌, ◌^◌, ◌<◌, ◌≤◌, inl, inr, List, [], ◌∷◌, length, map, drop, get_or, All, Bool, true, false, true≢false, refl, sym, ap, ◌∙◌, subst, arith}
+use Rattle.std.specs.Prelude.{nat_lt, ◌==◌, ◌||◌, if◌then◌else◌}
 use Rattle.std.proofs.lemmas.Bool.{cases_lt}
 use Rattle.std.proofs.lemmas.Bool.Decides.{nat_tests}
-use Rattle.std.proofs.lemmas.List.{drop-map, get_or-drop, length-map}
-use Rattle.std.proofs.lemmas.List.Elements.{All-get_or}
-use Rattle.std.proofs.lemmas.Nat.{mul-add-lt}
+use Rattle.std.proofs.lemmas.List.{drop-map, get_or-drop}
 use Rattle.std.proofs.Math.Nat.{add-mul}
 use Rattle.av1_plane.specs.declared.three.Three.{Three}
 use Rattle.av1_plane.specs.declared.plane.PlaneConfig.{PlaneConfig}
@@ -13,23 +11,24 @@ use Rattle.av1_plane.specs.declared.plane.Plane.{Plane}
 use Rattle.av1_plane.specs.declared.region.PlaneRegion.{PlaneRegion}
 use Rattle.av1_plane.specs.declared.sampling.ChromaSampling.{ChromaSampling}
 use Rattle.av1_plane.specs.declared.sampling.ChromaSampling.TheVariants.{Cs420, Cs422, Cs444, Cs400}
-use Rattle.av1_plane.specs.Numbers.{InDepth, Below}
+use Rattle.av1_plane.specs.Numbers.{InDepth, IsDepth}
 use Rattle.av1_plane.specs.Layout.{frame_layout, rounded, at}
 use Rattle.av1_plane.specs.Place.{origin_place}
 use Rattle.av1_plane.specs.Region.{spot}
-use Rattle.av1_plane.specs.Reading.{samples_seen, step_seen, area_seen, numbers_seen}
+use Rattle.av1_plane.specs.Reading.{step_seen, numbers_seen}
 use Rattle.av1_plane.specs.Regions.{ShowsPlane}
 use Rattle.av1_block.specs.declared.block.Block.{Block}
 use Rattle.av1_tiling.specs.Views.{PlaneView, view_plane}
-use Rattle.av1_tiling.specs.Frames.{Parameters, IsInRange, FitsDepth}
+use Rattle.av1_tiling.specs.Frames.{Parameters, IsInRange, IsInputFor, FitsDepth}
 use Rattle.av1_deblock.specs.Edges.{BlockTable}
-use Rattle.av1_deblock.specs.Passes.{PartBelow, frame_plane, is_empty}
-use Rattle.av1_deblock.specs.Conditions.{IsDecimated, ShowsRounded, ShowsDepth, rounded_width, rounded_height}
-use Rattle.av1_deblock.specs.Frames.{FrameShape, frame_shape}
+use Rattle.av1_deblock.specs.Passes.{frame_plane, is_empty}
+use Rattle.av1_deblock.specs.Conditions.{IsDecimated, ShowsRounded, ShowsDepth}
+use Rattle.av1_deblock.specs.Frames.{frame_shape}
 use Rattle.av1_deblock.specs.Errors.{IsLowestLeast}
 use Rattle.av1_deblock.specs.Choice.{Measured, AreBest, AreLevels, CanTally, level_of, error_at, error_of_both, measured_plane, guessed_level, is_key}
 use Rattle.av1_deblock.specs.Levels.{clamped_level, fitted_level}
-use Rattle.av1_frame.specs.Reference.{lowest_least, fast_levels, best_levels, levels_of, measured_in, from_first, block_table}
+use Rattle.av1_frame.specs.Planes.{FitsFrame, IsPlaneFor}
+use Rattle.av1_frame.specs.Reference.{lowest_least, fast_levels, levels_of, measured_in, from_first, block_table}
 
 -- The lowest level of least error.
 
@@ -123,45 +122,82 @@ four_low a b c d ha hb hc hd (suc (suc (suc (suc n)))) e l = absurd (omega arith
 
 -- Planes of a frame.
 
--- a plane of a frame of these sides: at most halved, and not smaller than its rounded part
-pub record FitsFrame (pli w h : ℕ) (cfg : PlaneConfig) : Type 0 where
-  pub decimated : IsDecimated pli cfg
-  pub wide : rounded_width cfg w ≤ cfg.width
-  pub high : rounded_height cfg h ≤ cfg.height
+-- planes with a sample in each direction are not empty
+not_empty : (w h : ℕ) → 0 < w → 0 < h → ((w == 0) || (h == 0)) ≡ false
+not_empty w h lw lh = grind (arith, nat_tests)
 
 -- a side, where there is one
-some_side : (b : Bool) (n m : ℕ) → n ≤ m → (if b then 0 else n) ≤ m
-some_side true n m l = omega arith
-some_side false n m l = l
+some_side : (b : Bool) (n m : ℕ) → b ≡ false → n ≡ m → (if b then 0 else n) ≡ m
+some_side true n m e l = absurd (true≢false e)
+some_side false n m e l = l
 
-pub fits_y : (w h : ℕ) (sampling : ChromaSampling) → FitsFrame 0 w h (frame_layout w h sampling).y
-fits_y w h sampling = record {
+-- the layout of luma
+pub fits_y : (w h : ℕ) (sampling : ChromaSampling) → 1 ≤ w → 1 ≤ h → FitsFrame 0 w h (frame_layout w h sampling).y
+fits_y w h sampling lw lh =
+    let some = not_empty (rounded w) (rounded h) (omega arith) (omega arith) in
+    record {
+      decimated = record { x = omega arith; y = omega arith; luma_x = λ e. refl; luma_y = λ e. refl };
+      wide = some_side (is_empty (frame_layout w h sampling).y) (rounded w / 2 ^ 0) (rounded w) some (omega arith);
+      high = some_side (is_empty (frame_layout w h sampling).y) (rounded h / 2 ^ 0) (rounded h) some (omega arith);
+    }
+
+-- that of chroma
+pub fits_chroma : (pli w h : ℕ) (sampling : ChromaSampling) → 0 < pli → 1 ≤ w → 1 ≤ h → FitsFrame pli w h (frame_layout w h sampling).u
+fits_chroma pli w h Cs420 some lw lh =
+    let filled = not_empty (rounded w / 2 ^ 1) (rounded h / 2 ^ 1) (omega arith) (omega arith) in
+    record {
+      decimated = record { x = omega arith; y = omega arith; luma_x = λ e. absurd (omega arith); luma_y = λ e. absurd (omega arith) };
+      wide = some_side (is_empty (frame_layout w h Cs420).u) (rounded w / 2 ^ 1) (rounded w / 2 ^ 1) filled refl;
+      high = some_side (is_empty (frame_layout w h Cs420).u) (rounded h / 2 ^ 1) (rounded h / 2 ^ 1) filled refl;
+    }
+fits_chroma pli w h Cs422 some lw lh =
+    let filled = not_empty (rounded w / 2 ^ 1) (rounded h / 2 ^ 0) (omega arith) (omega arith) in
+    record {
+      decimated = record { x = omega arith; y = omega arith; luma_x = λ e. absurd (omega arith); luma_y = λ e. absurd (omega arith) };
+      wide = some_side (is_empty (frame_layout w h Cs422).u) (rounded w / 2 ^ 1) (rounded w / 2 ^ 1) filled refl;
+      high = some_side (is_empty (frame_layout w h Cs422).u) (rounded h / 2 ^ 0) (rounded h / 2 ^ 0) filled refl;
+    }
+fits_chroma pli w h Cs444 some lw lh =
+    let filled = not_empty (rounded w / 2 ^ 0) (rounded h / 2 ^ 0) (omega arith) (omega arith) in
+    record {
+      decimated = record { x = omega arith; y = omega arith; luma_x = λ e. refl; luma_y = λ e. refl };
+      wide = some_side (is_empty (frame_layout w h Cs444).u) (rounded w / 2 ^ 0) (rounded w / 2 ^ 0) filled refl;
+      high = some_side (is_empty (frame_layout w h Cs444).u) (rounded h / 2 ^ 0) (rounded h / 2 ^ 0) filled refl;
+    }
+fits_chroma pli w h Cs400 some lw lh = record {
   decimated = record { x = omega arith; y = omega arith; luma_x = λ e. refl; luma_y = λ e. refl };
-  wide = some_side (is_empty (frame_layout w h sampling).y) (rounded w / 2 ^ 0) (rounded w) (omega arith);
-  high = some_side (is_empty (frame_layout w h sampling).y) (rounded h / 2 ^ 0) (rounded h) (omega arith);
+  wide = refl;
+  high = refl;
 }
 
-pub fits_chroma : (pli w h : ℕ) (sampling : ChromaSampling) → 0 < pli → FitsFrame pli w h (frame_layout w h sampling).u
-fits_chroma pli w h Cs420 some = record {
-  decimated = record { x = omega arith; y = omega arith; luma_x = λ e. absurd (omega arith); luma_y = λ e. absurd (omega arith) };
-  wide = some_side (is_empty (frame_layout w h Cs420).u) (rounded w / 2 ^ 1) (rounded w / 2 ^ 1) (omega arith);
-  high = some_side (is_empty (frame_layout w h Cs420).u) (rounded h / 2 ^ 1) (rounded h / 2 ^ 1) (omega arith);
+-- each plane of a frame made for its parameters
+pub y_for : (p : Parameters) (f : Three PlaneView) → 1 ≤ p.width → 1 ≤ p.height → IsInputFor p f → IsPlaneFor p 0 f.y
+y_for p f lw lh i = record {
+  layout = subst (FitsFrame 0 p.width p.height) (ap (λ (t : Three PlaneConfig). t.y) (sym i.layout)) (fits_y p.width p.height p.sequence.chroma_sampling lw lh);
+  range = i.y_range;
 }
-fits_chroma pli w h Cs422 some = record {
-  decimated = record { x = omega arith; y = omega arith; luma_x = λ e. absurd (omega arith); luma_y = λ e. absurd (omega arith) };
-  wide = some_side (is_empty (frame_layout w h Cs422).u) (rounded w / 2 ^ 1) (rounded w / 2 ^ 1) (omega arith);
-  high = some_side (is_empty (frame_layout w h Cs422).u) (rounded h / 2 ^ 0) (rounded h / 2 ^ 0) (omega arith);
+
+pub u_for : (p : Parameters) (f : Three PlaneView) → 1 ≤ p.width → 1 ≤ p.height → IsInputFor p f → IsPlaneFor p 1 f.u
+u_for p f lw lh i = record {
+  layout = subst (FitsFrame 1 p.width p.height) (ap (λ (t : Three PlaneConfig). t.u) (sym i.layout)) (fits_chroma 1 p.width p.height p.sequence.chroma_sampling (omega arith) lw lh);
+  range = i.u_range;
 }
-fits_chroma pli w h Cs444 some = record {
-  decimated = record { x = omega arith; y = omega arith; luma_x = λ e. refl; luma_y = λ e. refl };
-  wide = some_side (is_empty (frame_layout w h Cs444).u) (rounded w / 2 ^ 0) (rounded w / 2 ^ 0) (omega arith);
-  high = some_side (is_empty (frame_layout w h Cs444).u) (rounded h / 2 ^ 0) (rounded h / 2 ^ 0) (omega arith);
+
+pub v_for : (p : Parameters) (f : Three PlaneView) → 1 ≤ p.width → 1 ≤ p.height → IsInputFor p f → IsPlaneFor p 2 f.v
+v_for p f lw lh i = record {
+  layout = subst (FitsFrame 2 p.width p.height) (ap (λ (t : Three PlaneConfig). t.v) (sym i.layout)) (fits_chroma 2 p.width p.height p.sequence.chroma_sampling (omega arith) lw lh);
+  range = i.v_range;
 }
-fits_chroma pli w h Cs400 some = record {
-  decimated = record { x = omega arith; y = omega arith; luma_x = λ e. refl; luma_y = λ e. refl };
-  wide = omega arith;
-  high = omega arith;
-}
+
+-- bit depths of the profile
+pub depth_is : (limit depth : ℕ) → FitsDepth limit depth → IsDepth depth
+depth_is limit depth (inl eight) = inl eight.0
+depth_is limit depth (inr more) = inr more.0
+
+-- the sample type holds them
+pub depth_fits : (limit depth : ℕ) → FitsDepth limit depth → 2 ^ depth ≤ limit
+depth_fits limit depth (inl eight) = rw (eight.0, eight.1) (omega arith)
+depth_fits limit depth (inr more) = elim more.0 [ inl ten ↦ rw (ten, more.1) (omega arith) | inr twelve ↦ rw (twelve, more.1) (omega arith) ]
 
 module _ {X : Type 0} (number : X → ℤ) (w h bd pli : ℕ) where
   -- a region of a whole plane shows the plane's rounded part
@@ -219,16 +255,6 @@ module _ {X : Type 0} (number : X → ℤ) (w h bd pli : ℕ) where
         pictures = record { depth = sym deep i; coded = coded i; coded_step = shown.step i; source = begun i; source_step = shown_source.step i };
       }
 
-  -- samples of the type's range are in depth
-  pub in_range : (plane : Plane X) → Below (2 ^ bd) (map number plane.samples.items) → IsInRange (2 ^ bd) (view_plane number plane)
-  in_range plane below x y lx ly =
-      let wide = plane.wide in
-      let high = plane.high in
-      let stored = plane.stored in
-      let long = length-map plane.samples.items number in
-      let inside = mul-add-lt (plane.cfg.yorigin + y) plane.cfg.stride (plane.cfg.xorigin + x) plane.cfg.alloc_height (omega arith) (omega arith) in
-      All-get_or (InDepth (2 ^ bd)) (map number plane.samples.items) ((plane.cfg.yorigin + y) * plane.cfg.stride + (plane.cfg.xorigin + x)) (pos 0) (omega arith) below.each
-
 -- a level is at most 63
 clamped_low : (z : ℤ) → clamped_level z ≤ 63
 unfolding clamped_level
@@ -250,8 +276,3 @@ by_way p t m levels false e four h =
 
 pub levels_low : (p : Parameters) (t : BlockTable) (m : Three Measured) (levels : List ℕ) → length levels ≡ 4 → AreLevels p t m levels → All (λ n. n ≤ 63) levels
 levels_low p t m levels four h = by_way p t m levels p.fast_deblock refl four h
-
--- samples of eight bits have the type's range
-pub limit_is : (limit depth : ℕ) → FitsDepth limit depth → depth ≡ 8 → limit ≡ 2 ^ depth
-limit_is limit depth (inl eight) e = eight.1 ∙ ap (λ (d : ℕ). 2 ^ d) (sym e)
-limit_is limit depth (inr more) e = absurd (elim more.0 [ inl ten ↦ omega arith | inr twelve ↦ omega arith ])

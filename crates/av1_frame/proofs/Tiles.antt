@@ -21,14 +21,18 @@ use Rattle.av1_tiling.specs.TileRects.{tile_blocks, block_columns, block_rows}
 use Rattle.av1_tiling.specs.Views.{View, Part, PlaneView, SameShape, AreFull}
 use Rattle.av1_tiling.specs.Frames.{Parameters, State, IsStateFor, IsTilingOf, IsInRange, AreMotionTables, layouts, views, view_of}
 use Rattle.av1_tiling.specs.Puts.{coded_blocks}
-use Rattle.av1_tiling.specs.Coded.{HasParts, IsCovered, entry_in, ViewLies, AreViewsApart, IsCodedMotion, state_tables}
+use Rattle.av1_block.specs.declared.restoration_unit.RestorationUnit.{RestorationUnit}
+use Rattle.av1_tiling.specs.declared.restoration_plane.RestorationPlaneConfig.{RestorationPlaneConfig}
+use Rattle.av1_tiling.specs.Restoration.{Units, HasLayout}
+use Rattle.av1_tiling.specs.UnitSizes.{AreUnitsFor, unit_layouts}
+use Rattle.av1_tiling.specs.Coded.{AreCodedUnits, IsCodedUnitTable, HasParts, IsCovered, entry_in, ViewLies, AreViewsApart, IsCodedMotion, state_tables}
 use Rattle.av1_tiling.proofs.Inside.{tiling_facts}
 use Rattle.av1_tiling.proofs.LawProofs.{cuts_blocks}
 use Rattle.av1_tiling.proofs.Placed.{coded_have}
 use Rattle.av1_tiling.proofs.ViewPlaces.{views_apart, views_lie, coded_lie, coded_apart, length-views, get_or-views_below}
 
 -- the entry of a part that a place of a table has
-from_part : {E : Type 0} (P : E → Type 0) (xs ys : List E) (k j : ℕ) (d : E) → k < length xs → slice_get xs k ≡ slice_get ys j → All P ys → P (get_or xs k d)
+pub from_part : {E : Type 0} (P : E → Type 0) (xs ys : List E) (k j : ℕ) (d : E) → k < length xs → slice_get xs k ≡ slice_get ys j → All P ys → P (get_or xs k d)
 from_part P xs ys k j d l same each = elim (cases_lt j (length ys)) [
   | inl below ↦
       let here : slice_get ys j ≡ Some (get_or xs k d) = sym same ∙ slice_get-get_or xs k d l in
@@ -97,14 +101,26 @@ sides_low cols rows tables wide high made k d l =
     let r = sides.1 in
     (omega arith, omega arith)
 
--- a state whose levels, motion records and picture alone were changed is still made for its frame
-pub kept_state : (p : Parameters) (s after : State) → IsStateFor p s → after.input ≡ s.input → layouts after.rec ≡ layouts s.rec → AreMotionTables p.w_in_b p.h_in_b after.frame_me_stats → after.deblock.block_delta_shift ≡ s.deblock.block_delta_shift → IsStateFor p after
-kept_state p s after state input rec motion shift = record {
+-- units of a frame keep their layouts
+pub kept_units : (p : Parameters) (views : List View) (old new : Three Units) → AreUnitsFor p old → AreCodedUnits views old new → AreUnitsFor p new
+kept_units p views old new made coded =
+    let keep = λ (cfg : RestorationPlaneConfig) (a b : Units) (parts : List (Part RestorationUnit)) (layout : HasLayout cfg a) (put : IsCodedUnitTable parts a b).
+    let kept : HasLayout cfg b = record { layout = put.cfg ∙ layout.layout; cols = put.cols ∙ layout.cols; rows = put.rows ∙ layout.rows; entries = put.entries.length ∙ layout.entries } in kept in
+    record {
+      y = keep (unit_layouts p).y old.y new.y (map (λ v. v.ts.units.y) views) made.y coded.y;
+      u = keep (unit_layouts p).u old.u new.u (map (λ v. v.ts.units.u) views) made.u coded.u;
+      v = keep (unit_layouts p).v old.v new.v (map (λ v. v.ts.units.v) views) made.v coded.v;
+    }
+
+-- a state whose levels, motion records, restoration units and picture alone were changed is still made for its frame
+pub kept_state : (p : Parameters) (s after : State) → IsStateFor p s → after.input ≡ s.input → layouts after.rec ≡ layouts s.rec → AreUnitsFor p after.restoration → AreMotionTables p.w_in_b p.h_in_b after.frame_me_stats → after.deblock.block_delta_shift ≡ s.deblock.block_delta_shift → IsStateFor p after
+kept_state p s after state input rec units motion shift = record {
   input = subst (λ (f : Three PlaneView). layouts f ≡ frame_layout p.width p.height p.sequence.chroma_sampling) (sym input) state.input;
   rec = rec ∙ state.rec;
   y_range = subst (λ (f : Three PlaneView). IsInRange (2 ^ p.sequence.bit_depth) f.y) (sym input) state.y_range;
   u_range = subst (λ (f : Three PlaneView). IsInRange (2 ^ p.sequence.bit_depth) f.u) (sym input) state.u_range;
   v_range = subst (λ (f : Three PlaneView). IsInRange (2 ^ p.sequence.bit_depth) f.v) (sym input) state.v_range;
+  restoration = units;
   motion = motion;
   shift = subst (λ n. n ≤ 3) (sym shift) state.shift;
 }

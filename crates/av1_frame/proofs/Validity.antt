@@ -13,10 +13,12 @@ use Rattle.av1_block.proofs.Rules.{is_block-true, is_block_of}
 use Rattle.av1_tiling.specs.Views.{View}
 use Rattle.av1_tiling.specs.Frames.{Parameters}
 use Rattle.av1_frame.specs.declared.group_error.GroupError.{GroupError}
-use Rattle.av1_frame.specs.declared.group_error.GroupError.TheVariants.{Coder, EmptyTile, TileTooLarge, BadSample, BadBlock}
-use Rattle.av1_frame.specs.Coding.{Meaning, refusal, first_of, decimations_of, are_in_depth, has_no_bytes, has_too_many_bytes, has_bad_sample, has_bad_block}
+use Rattle.av1_frame.specs.declared.group_error.GroupError.TheVariants.{Coder, EmptyTile, TileTooLarge, BadSample, BadBlock, BadUnit}
+use Rattle.av1_frame.specs.Coding.{Meaning, refusal, first_of, decimations_of, are_in_depth, has_no_bytes, has_too_many_bytes, has_bad_sample, has_bad_block, has_bad_unit}
+use Rattle.av1_frame.specs.Units.{are_units}
 use Rattle.av1_frame.specs.Valid.{IsValid, IsValidTile}
 use Rattle.av1_frame.proofs.Depths.{parts_of, of_parts}
+use Rattle.av1_frame.proofs.UnitRule.{units_true, units_of}
 
 -- one element more
 one_more : {A : Type 0} (test : A → Bool) (n : ℕ) (x : A) (xs : List A) (rest : Option ℕ) (b : Bool) → test x ≡ b → cond b (Some n) rest ≡ None
@@ -59,9 +61,9 @@ unturned true e = refl
 unturned false e = absurd (true≢false (sym e))
 
 -- the tests of one result
-valid_of : (p : Parameters) (m : Meaning) → is_none m ≡ false → has_no_bytes m ≡ false → has_too_many_bytes m ≡ false → has_bad_sample p m ≡ false → has_bad_block p m ≡ false → IsValid p m
-valid_of p None a b c d e = absurd (true≢false a)
-valid_of p (Some (bytes, v)) a b c d e =
+valid_of : (p : Parameters) (m : Meaning) → is_none m ≡ false → has_no_bytes m ≡ false → has_too_many_bytes m ≡ false → has_bad_sample p m ≡ false → has_bad_block p m ≡ false → has_bad_unit m ≡ false → IsValid p m
+valid_of p None a b c d e f = absurd (true≢false a)
+valid_of p (Some (bytes, v)) a b c d e f =
     let x = (decimations_of p.sequence.chroma_sampling).0 in
     let y = (decimations_of p.sequence.chroma_sampling).1 in
     record {
@@ -69,6 +71,7 @@ valid_of p (Some (bytes, v)) a b c d e =
       few = few_of (length bytes) c;
       samples = parts_of p v.ts.rec (turned (are_in_depth p v.ts.rec) d);
       blocks = λ k b l. is_block-true x y (get_or v.blocks.entries k b) (AllPass-from_list_all (is_block x y) v.blocks.entries (turned (list_all (is_block x y) v.blocks.entries) e) k b l);
+      units = units_true v.ts.units (turned (are_units v.ts.units) f);
     }
   where
     some_of : (n : ℕ) → (n == 0) ≡ false → 1 ≤ n
@@ -77,7 +80,7 @@ valid_of p (Some (bytes, v)) a b c d e =
     few_of : (n : ℕ) → nat_le (2 ^ 32) n ≡ false → n < 2 ^ 32
     few_of n e = grind (arith, nat_tests)
 
-tests_of : (p : Parameters) (m : Meaning) → IsValid p m → (is_none m ≡ false) × ((has_no_bytes m ≡ false) × ((has_too_many_bytes m ≡ false) × ((has_bad_sample p m ≡ false) × (has_bad_block p m ≡ false))))
+tests_of : (p : Parameters) (m : Meaning) → IsValid p m → (is_none m ≡ false) × ((has_no_bytes m ≡ false) × ((has_too_many_bytes m ≡ false) × ((has_bad_sample p m ≡ false) × ((has_bad_block p m ≡ false) × (has_bad_unit m ≡ false)))))
 tests_of p None valid = absurd valid
 tests_of p (Some (bytes, v)) valid =
     let x = (decimations_of p.sequence.chroma_sampling).0 in
@@ -85,7 +88,7 @@ tests_of p (Some (bytes, v)) valid =
       refl,
       (
         none_of (length bytes) valid.some,
-        (many_of (length bytes) valid.few, (unturned (are_in_depth p v.ts.rec) (of_parts p v.ts.rec valid.samples), unturned (list_all (is_block x y) v.blocks.entries) (list_all-from_AllPass (is_block x y) v.blocks.entries (λ k e l. is_block_of x y (get_or v.blocks.entries k e) (valid.blocks k e l))))),
+        (many_of (length bytes) valid.few, (unturned (are_in_depth p v.ts.rec) (of_parts p v.ts.rec valid.samples), (unturned (list_all (is_block x y) v.blocks.entries) (list_all-from_AllPass (is_block x y) v.blocks.entries (λ k e l. is_block_of x y (get_or v.blocks.entries k e) (valid.blocks k e l))), unturned (are_units v.ts.units) (units_of v.ts.units valid.units)))),
       ),
     )
   where
@@ -98,8 +101,11 @@ tests_of p (Some (bytes, v)) valid =
 pub accepts_valid : (p : Parameters) (ms : List Meaning) → (refusal p ms ≡ None) ↔ All (IsValid p) ms
 accepts_valid p ms = (to, from)
   where
+    units : Option GroupError
+    units = first_of (position has_bad_unit ms) (λ tile. BadUnit tile) None
+
     blocks : Option GroupError
-    blocks = first_of (position (has_bad_block p) ms) (λ tile. BadBlock tile) None
+    blocks = first_of (position (has_bad_block p) ms) (λ tile. BadBlock tile) units
 
     samples : Option GroupError
     samples = first_of (position (has_bad_sample p) ms) (λ tile. BadSample tile) blocks
@@ -116,8 +122,9 @@ accepts_valid p ms = (to, from)
         let b = first_none (position has_no_bytes ms) (λ tile. EmptyTile tile) large a.1 in
         let c = first_none (position has_too_many_bytes ms) (λ tile. TileTooLarge tile) samples b.1 in
         let s = first_none (position (has_bad_sample p) ms) (λ tile. BadSample tile) blocks c.1 in
-        let d = first_none (position (has_bad_block p) ms) (λ tile. BadBlock tile) None s.1 in
-        λ k m l. valid_of p (get_or ms k m) (position-none is_none ms a.0 k m l) (position-none has_no_bytes ms b.0 k m l) (position-none has_too_many_bytes ms c.0 k m l) (position-none (has_bad_sample p) ms s.0 k m l) (position-none (has_bad_block p) ms d.0 k m l)
+        let d = first_none (position (has_bad_block p) ms) (λ tile. BadBlock tile) units s.1 in
+        let u = first_none (position has_bad_unit ms) (λ tile. BadUnit tile) None d.1 in
+        λ k m l. valid_of p (get_or ms k m) (position-none is_none ms a.0 k m l) (position-none has_no_bytes ms b.0 k m l) (position-none has_too_many_bytes ms c.0 k m l) (position-none (has_bad_sample p) ms s.0 k m l) (position-none (has_bad_block p) ms d.0 k m l) (position-none has_bad_unit ms u.0 k m l)
 
     from : All (IsValid p) ms → refusal p ms ≡ None
     from each =
@@ -125,4 +132,5 @@ accepts_valid p ms = (to, from)
         (none_first (position has_no_bytes ms) (λ tile. EmptyTile tile) large (none-position has_no_bytes ms (λ k m l. (tests_of p (get_or ms k m) (each k m l)).1.0))
         (none_first (position has_too_many_bytes ms) (λ tile. TileTooLarge tile) samples (none-position has_too_many_bytes ms (λ k m l. (tests_of p (get_or ms k m) (each k m l)).1.1.0))
         (none_first (position (has_bad_sample p) ms) (λ tile. BadSample tile) blocks (none-position (has_bad_sample p) ms (λ k m l. (tests_of p (get_or ms k m) (each k m l)).1.1.1.0))
-        (none_first (position (has_bad_block p) ms) (λ tile. BadBlock tile) None (none-position (has_bad_block p) ms (λ k m l. (tests_of p (get_or ms k m) (each k m l)).1.1.1.1)) refl))))
+        (none_first (position (has_bad_block p) ms) (λ tile. BadBlock tile) units (none-position (has_bad_block p) ms (λ k m l. (tests_of p (get_or ms k m) (each k m l)).1.1.1.1.0))
+        (none_first (position has_bad_unit ms) (λ tile. BadUnit tile) None (none-position has_bad_unit ms (λ k m l. (tests_of p (get_or ms k m) (each k m l)).1.1.1.1.1)) refl)))))

@@ -48,15 +48,15 @@ pub record Outcome : Type 0 where
   pub coded : Tables
   pub reference : Three (List (List ℤ))
 
--- the planes, motion records and blocks that the tiles were coded into
+-- the planes, motion records, restoration units and blocks that the tiles were coded into
 abbrev pub coded_of : Job → Tables
 coded_of j = coded_tables (job_tables j) (tile_views j.results)
 
--- the reference's picture: what was coded, deblocked at these levels
+-- the reference's picture: what was coded, deblocked at these levels and then through the stages that the sequence has
 abbrev pub reference_of : Job → List ℕ → Tables → Three (List (List ℤ))
 reference_of j levels c =
     visible_picture j.parameters
-    (reference j.parameters (with_levels j.state.deblock levels) c.blocks.entries c.rec)
+    (reference j.parameters (with_levels j.state.deblock levels) c)
 
 -- the levels that coded planes and blocks are deblocked at
 abbrev pub chosen_levels : Job → Tables → List ℕ
@@ -84,6 +84,7 @@ pub record Holds (j : Job) (o : Outcome) (group : List ℕ) (s : State) (blocks 
   pub state : s ≡ record j.state {
     rec = s.rec;
     frame_me_stats = o.coded.motion;
+    restoration = o.coded.units;
     deblock = with_levels j.state.deblock o.levels;
     max_tile_size_bytes = o.size_bytes;
     context_update_tile_id = o.context_tile;

@@ -1,4 +1,5 @@
 //! Laws of the definitions. Each is the contract of a function that does nothing.
+ghost use Rattle.av1_frame.specs.AnyOrder.{CodedAnyOrder, CoreAnyOrder};
 ghost use Rattle.av1_frame.specs.Framing.{ReadsFramed, IsFramedOnce};
 ghost use Rattle.av1_frame.specs.Valid.{RefusesInvalid};
 
@@ -15,4 +16,16 @@ pub fn reads_framed()
 /// Two lists of one number that are framed as the same bytes are the same.
 pub fn framed_once()
     ensures { IsFramedOnce }
+{}
+
+/// After any list of claims and deliveries, by any number of workers, the delivered tiles are different
+/// ones, each with its result, and all of them sorted by number are the results.
+pub fn core_any_order<R>()
+    ensures { CoreAnyOrder R }
+{}
+
+/// Views that lie in tables and have no place in common may be put in in the order in which any number of
+/// workers delivers them: the tables are those that have each view's content in its rectangles.
+pub fn coded_any_order()
+    ensures { CodedAnyOrder }
 {}

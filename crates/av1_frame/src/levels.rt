@@ -1,23 +1,22 @@
 //! The levels that a coded frame is deblocked at.
 ghost use Rattle.std.specs.Prelude.{◌≡◌, ◌/◌, ◌<◌, ◌≤◌, All, length};
-ghost use Rattle.av1_plane.specs.Layout.{frame_layout, rounded};
+ghost use Rattle.av1_plane.specs.Layout.{rounded};
 ghost use Rattle.av1_plane.specs.Numbers.{IsDepth};
 ghost use Rattle.av1_deblock.specs.Choice.{CanTally, AreLevels, measured_frame};
 ghost use Rattle.av1_deblock.specs.Frames.{frame_shape};
 ghost use Rattle.av1_block.specs.Block.{first_ref};
 ghost use Rattle.av1_block.specs.Sides.{ref_number};
 ghost use Rattle.av1_tiling.specs.Views.{view_frame};
-ghost use Rattle.av1_tiling.specs.Frames.{layouts, IsFrame, IsInputFor, AreBlocksFor};
+ghost use Rattle.av1_tiling.specs.Frames.{IsFrame, IsInputFor, AreBlocksFor};
 ghost use Rattle.av1_plane.specs.Regions.{ShowsPlane};
 ghost use Rattle.av1_frame.specs.Reference.{levels_of};
 
-use crate::luma::read_plane;
 use av1_block::{FrameBlocks, TileBlocks};
 use av1_deblock::deblock_filter_optimize;
 use av1_plane::{AsRegion, Frame, Pixel, Three, Tile};
 use av1_tiling::FrameInvariants;
 
-/// The levels of a coded frame of 8 bits: the guessed one, or those of least error against the input.
+/// The levels of a coded frame: the guessed one, or those of least error against the input.
 pub(crate) fn choose_levels<T: Pixel>(
     fi: &FrameInvariants<T>,
     input: &Frame<T>,
@@ -25,19 +24,14 @@ pub(crate) fn choose_levels<T: Pixel>(
     blocks: &FrameBlocks,
 ) -> [u8; 4]
     requires frame { IsFrame T.limit fi.now }
-    requires depth { fi.now.sequence.bit_depth ≡ 8 }
     requires input { IsInputFor fi.now (view_frame T.number input.now) }
-    requires layout { layouts (view_frame T.number coded.now)
-        ≡ frame_layout fi.now.width fi.now.height fi.now.sequence.chroma_sampling }
+    requires coded { IsInputFor fi.now (view_frame T.number coded.now) }
     requires blocks { AreBlocksFor fi.now blocks.now }
     requires references { All (λ b. ref_number (first_ref b) < 8) blocks.now.entries }
     ensures value { result ≡ levels_of fi.now blocks.now.entries
         (view_frame T.number coded.now) (view_frame T.number input.now) }
     ensures high { All (λ l. l ≤ 63) result }
 {
-    read_plane(&coded.planes.y);
-    read_plane(&coded.planes.u);
-    read_plane(&coded.planes.v);
     let rec = whole(coded);
     let source = whole(input);
     optimize(fi, &rec, &source, blocks, fi.width, fi.height)

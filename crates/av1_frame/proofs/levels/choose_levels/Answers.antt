@@ -1,13 +1,12 @@
-use Rattle.std.proofs.Common.{◌≡◌, ◌/◌, ◌^◌, ◌≤◌, ℕ, inl, map, refl, sym, ap, subst, ◌∙◌, arith}
+use Rattle.std.proofs.Common.{◌/◌, ◌≤◌, refl, sym, ap, subst, ◌∙◌}
 use Rattle.av1_plane.specs.Layout.{rounded}
-use Rattle.av1_plane.specs.Numbers.{Below}
 use Rattle.av1_plane.specs.declared.plane.PlaneConfig.{PlaneConfig}
 use Rattle.av1_plane.specs.declared.three.Three.{Three}
 use Rattle.av1_tiling.specs.Frames.{Parameters}
 use Rattle.av1_tiling.specs.Views.{view_frame}
 use Rattle.av1_deblock.specs.Frames.{frame_shape}
 use Rattle.av1_deblock.specs.Choice.{CanTally, measured_frame}
-use Rattle.av1_frame.proofs.BestLevels.{FitsFrame, fits_y, fits_chroma, can_tally, measured_is, in_range, limit_is, levels_are, levels_low}
+use Rattle.av1_frame.proofs.BestLevels.{y_for, u_for, v_for, depth_is, can_tally, measured_is, levels_are, levels_low}
 use Rattle.av1_frame.proofs.levels.choose_levels.Goals as goal
 
 pub optimize-requires-clause-wide : goal.optimize-requires-clause-wide
@@ -31,13 +30,12 @@ optimize-requires-clause-y g c =
     let bd = p.sequence.bit_depth in
     let plane = c.args.coded.now.planes.y in
     let source = c.args.input.now.planes.y in
-    let layout = ap (λ (l : Three PlaneConfig). l.y) c.requires.layout in
+    let layout = ap (λ (l : Three PlaneConfig). l.y) c.requires.coded.layout in
     let begun = ap (λ (l : Three PlaneConfig). l.y) c.requires.input.layout in
-    let fits = subst (FitsFrame 0 p.width p.height) (sym layout) (fits_y p.width p.height p.sequence.chroma_sampling) in
-    let below = subst (λ (n : ℕ). Below n (map number plane.samples.items)) (limit_is g.T.Pixel.limit bd c.requires.frame.depth c.requires.depth) c.read_plane.ensures in
+    let fits = y_for p (view_frame number c.args.coded.now) c.requires.frame.width.0 c.requires.frame.height.0 c.requires.coded in
     subst (λ (q : Parameters). CanTally number (frame_shape q.width q.height bd) 0 c.whole-rec.result.planes.y c.whole-source.result.planes.y) (sym c.fi.view_is)
-    (can_tally number p.width p.height bd 0 plane source c.whole-rec.result.planes.y c.whole-source.result.planes.y (begun ∙ sym layout) fits c.whole-rec.ensures.y c.whole-source.ensures.y
-    (in_range number p.width p.height bd 0 plane below) c.requires.input.y_range)
+    (can_tally number p.width p.height bd 0 plane source c.whole-rec.result.planes.y c.whole-source.result.planes.y (begun ∙ sym layout) fits.layout c.whole-rec.ensures.y c.whole-source.ensures.y
+    c.requires.coded.y_range c.requires.input.y_range)
 
 pub optimize-requires-clause-u : goal.optimize-requires-clause-u
 optimize-requires-clause-u g c =
@@ -46,13 +44,12 @@ optimize-requires-clause-u g c =
     let bd = p.sequence.bit_depth in
     let plane = c.args.coded.now.planes.u in
     let source = c.args.input.now.planes.u in
-    let layout = ap (λ (l : Three PlaneConfig). l.u) c.requires.layout in
+    let layout = ap (λ (l : Three PlaneConfig). l.u) c.requires.coded.layout in
     let begun = ap (λ (l : Three PlaneConfig). l.u) c.requires.input.layout in
-    let fits = subst (FitsFrame 1 p.width p.height) (sym layout) (fits_chroma 1 p.width p.height p.sequence.chroma_sampling (omega arith)) in
-    let below = subst (λ (n : ℕ). Below n (map number plane.samples.items)) (limit_is g.T.Pixel.limit bd c.requires.frame.depth c.requires.depth) c.read_plane-2.ensures in
+    let fits = u_for p (view_frame number c.args.coded.now) c.requires.frame.width.0 c.requires.frame.height.0 c.requires.coded in
     subst (λ (q : Parameters). CanTally number (frame_shape q.width q.height bd) 1 c.whole-rec.result.planes.u c.whole-source.result.planes.u) (sym c.fi.view_is)
-    (can_tally number p.width p.height bd 1 plane source c.whole-rec.result.planes.u c.whole-source.result.planes.u (begun ∙ sym layout) fits c.whole-rec.ensures.u c.whole-source.ensures.u
-    (in_range number p.width p.height bd 1 plane below) c.requires.input.u_range)
+    (can_tally number p.width p.height bd 1 plane source c.whole-rec.result.planes.u c.whole-source.result.planes.u (begun ∙ sym layout) fits.layout c.whole-rec.ensures.u c.whole-source.ensures.u
+    c.requires.coded.u_range c.requires.input.u_range)
 
 pub optimize-requires-clause-v : goal.optimize-requires-clause-v
 optimize-requires-clause-v g c =
@@ -61,13 +58,12 @@ optimize-requires-clause-v g c =
     let bd = p.sequence.bit_depth in
     let plane = c.args.coded.now.planes.v in
     let source = c.args.input.now.planes.v in
-    let layout = ap (λ (l : Three PlaneConfig). l.v) c.requires.layout in
+    let layout = ap (λ (l : Three PlaneConfig). l.v) c.requires.coded.layout in
     let begun = ap (λ (l : Three PlaneConfig). l.v) c.requires.input.layout in
-    let fits = subst (FitsFrame 2 p.width p.height) (sym layout) (fits_chroma 2 p.width p.height p.sequence.chroma_sampling (omega arith)) in
-    let below = subst (λ (n : ℕ). Below n (map number plane.samples.items)) (limit_is g.T.Pixel.limit bd c.requires.frame.depth c.requires.depth) c.read_plane-3.ensures in
+    let fits = v_for p (view_frame number c.args.coded.now) c.requires.frame.width.0 c.requires.frame.height.0 c.requires.coded in
     subst (λ (q : Parameters). CanTally number (frame_shape q.width q.height bd) 2 c.whole-rec.result.planes.v c.whole-source.result.planes.v) (sym c.fi.view_is)
-    (can_tally number p.width p.height bd 2 plane source c.whole-rec.result.planes.v c.whole-source.result.planes.v (begun ∙ sym layout) fits c.whole-rec.ensures.v c.whole-source.ensures.v
-    (in_range number p.width p.height bd 2 plane below) c.requires.input.v_range)
+    (can_tally number p.width p.height bd 2 plane source c.whole-rec.result.planes.v c.whole-source.result.planes.v (begun ∙ sym layout) fits.layout c.whole-rec.ensures.v c.whole-source.ensures.v
+    c.requires.coded.v_range c.requires.input.v_range)
 
 pub returns-clause-value : goal.returns-clause-value
 returns-clause-value g c =
@@ -94,3 +90,6 @@ returns-clause-high g c =
     levels_low p (record { entries = c.args.blocks.now.entries; step = c.args.blocks.now.cols })
     (measured_frame g.T.Pixel.number (frame_shape c.fi.inside.width c.fi.inside.height p.sequence.bit_depth) c.whole-rec.result c.whole-source.result) c.optimize.result
     c.optimize.ensures.four c.optimize.ensures.levels
+
+pub optimize-requires-clause-depth : goal.optimize-requires-clause-depth
+optimize-requires-clause-depth g c = depth_is g.T.Pixel.limit c.args.fi.now.sequence.bit_depth c.requires.frame.depth

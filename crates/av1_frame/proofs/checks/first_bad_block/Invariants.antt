@@ -1,0 +1,9 @@
+use Rattle.std.proofs.Common.{◌≡◌, map}
+use Rattle.av1_frame.specs.Coding.{has_bad_block}
+use Rattle.av1_frame.specs.Results.{result_of}
+use Rattle.av1_frame.proofs.Refusals.{IsSearched}
+use Rattle.av1_frame.proofs.checks.first_bad_block.Given as goal
+
+-- no tile so far passes
+abbrev pub invariant-loop-n : goal.invariant-loop-n
+invariant-loop-n g l = IsSearched (has_bad_block l.fi) (map result_of l.tiles) l.n

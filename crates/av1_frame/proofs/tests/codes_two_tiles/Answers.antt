@@ -1,0 +1,11 @@
+use Rattle.std.proofs.Common.{sym, ◌∙◌}
+use Rattle.av1_frame.proofs.tests.codes_two_tiles.Goals as goal
+
+pub encode_tile_group-requires-clause-made_for : goal.encode_tile_group-requires-clause-made_for
+encode_tile_group-requires-clause-made_for _ c κs =
+    let frame = c.in_ok-fi.ensures in
+    let table = c.in_ok-blocks.ensures in
+    record {
+      state = c.in_ok-fs.ensures;
+      blocks = record { columns = table.cols ∙ sym frame.blocks.0; rows = table.rows ∙ sym frame.blocks.1 };
+    }
