@@ -9,7 +9,7 @@ use Rattle.av1_block.specs.Tables.{entry_at}
 use Rattle.av1_block.specs.declared.block.Block.{Block}
 use Rattle.av1_rec.specs.declared.text.block_line.BlockLine.{BlockLine}
 use Rattle.av1_rec.specs.BlockTable.{holds, block_after, blocks_said}
-use Rattle.av1_rec.proofs.FirstValues.{by_places}
+use Rattle.av1_rec.proofs.FirstValues.{by_places, all_lines}
 
 -- what a list holds after one write
 pub read_set : (xs : List Block) (p i : ℕ) (v : Block) → p < length xs → get_or (set xs p v) i default_block ≡ (if i == p then v else get_or xs i default_block)
@@ -71,12 +71,6 @@ pub all_said : (cols rows : ℕ) (lines : List BlockLine) (items : List Block) �
 unfolding blocks_said
 all_said cols rows lines items count f =
     by_places default_block (λ x y. block_after default_block lines x y) cols rows items count f
-
-all_lines : (lines : List BlockLine) (i : ℕ) → length lines ≤ i → take i lines ≡ lines
-all_lines [] zero le = refl
-all_lines [] (suc i) le = refl
-all_lines (l ∷ lines) zero le = absurd (omega arith)
-all_lines (l ∷ lines) (suc i) le = ap (λ (m : List BlockLine). l ∷ m) (all_lines lines i (omega arith))
 
 -- all lines were written
 pub lines_written : (cols rows i : ℕ) (lines : List BlockLine) (items : List Block) → length lines ≤ i → length items ≡ cols * rows

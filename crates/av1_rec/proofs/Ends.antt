@@ -48,7 +48,6 @@ module _ (command : Option Command) (known : Option Answer) (read_rose write_ros
   whole status.TooLong printed made appended = (made.0, told known status.TooLong printed made.1 appended)
   whole status.Done printed made appended = (made.0, told known status.Done printed made.1 appended)
   whole status.NoTiling printed made appended = (made.0, told known status.NoTiling printed made.1 appended)
-  whole status.NotBuilt printed made appended = (made.0, told known status.NotBuilt printed made.1 appended)
   whole (status.Group error) printed made appended = (made.0, told known (status.Group error) printed made.1 appended)
   whole (status.Syntax line) printed made appended = (made.0, told known (status.Syntax line) printed made.1 appended)
 
@@ -61,7 +60,6 @@ module _ (command : Option Command) (known : Option Answer) (read_rose write_ros
   part status.TooLong printed made front = inl (told_part known status.TooLong printed made.1 front)
   part status.Done printed made front = inl (told_part known status.Done printed made.1 front)
   part status.NoTiling printed made front = inl (told_part known status.NoTiling printed made.1 front)
-  part status.NotBuilt printed made front = inl (told_part known status.NotBuilt printed made.1 front)
   part (status.Group error) printed made front = inl (told_part known (status.Group error) printed made.1 front)
   part (status.Syntax line) printed made front = inl (told_part known (status.Syntax line) printed made.1 front)
 

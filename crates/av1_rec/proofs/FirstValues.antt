@@ -1,7 +1,7 @@
 -- Lists of the values of a function, and tables of such values, row by row.
-use Rattle.std.proofs.Common.{◌≡◌, ℕ, zero, suc, ◌+◌, ◌*◌, ◌/◌, ◌%◌, ◌<◌, ◌≤◌, List, [], ◌∷◌, ◌++◌, length, get_or, ◌⊎◌, inl, inr, ap, refl, sym, ◌∙◌, length-append, arith}
+use Rattle.std.proofs.Common.{◌≡◌, ℕ, zero, suc, ◌+◌, ◌*◌, ◌/◌, ◌%◌, ◌<◌, ◌≤◌, List, [], ◌∷◌, ◌++◌, length, take, map, get_or, ◌⊎◌, inl, inr, ap, refl, sym, ◌∙◌, length-append, arith}
 use Rattle.std.proofs.lemmas.Nat.{div-add-mod', div_below, mod_below}
-use Rattle.std.proofs.lemmas.List.{ext_get_or, get_or_append_left, get_or_push}
+use Rattle.std.proofs.lemmas.List.{ext_get_or, get_or_append_left, get_or_push, map_push}
 use Rattle.std.proofs.lemmas.Bool.{cases_lt}
 use Rattle.av1_rec.specs.BlockTable.{first_values}
 
@@ -38,3 +38,16 @@ module _ {A : Type 0} where
           let row : i / cols < rows = div_below i cols rows some (omega arith) in
           let place : i ≡ i / cols * cols + i % cols = sym (div-add-mod' i cols) in
           ap (λ n. get_or items n d) place ∙ f (i % cols) (i / cols) column row
+
+  -- as many as there are are all
+  pub all_lines : (xs : List A) (i : ℕ) → length xs ≤ i → take i xs ≡ xs
+  all_lines [] zero le = refl
+  all_lines [] (suc i) le = refl
+  all_lines (x ∷ xs) zero le = absurd (omega arith)
+  all_lines (x ∷ xs) (suc i) le = ap (λ (m : List A). x ∷ m) (all_lines xs i (omega arith))
+
+-- one value more
+pub values_more : {X A : Type 0} (view : X → A) (f : ℕ → A) (items new : List X) (x : X) (n : ℕ) → new ≡ items ++ x ∷ [] → map view items ≡ first_values f n → view x ≡ f n → map view new ≡ first_values f (n + 1)
+values_more view f items new x n pushed so_far here =
+    let k : suc n ≡ n + 1 = omega arith in
+    ap (map view) pushed ∙ map_push view items x ∙ (λ i. so_far i ++ here i ∷ []) ∙ ap (first_values f) k

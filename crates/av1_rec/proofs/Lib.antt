@@ -4,15 +4,19 @@ pub mod Samples
 pub mod Many
 pub mod Strengths
 pub mod Lengths
-pub mod BuiltDepth
 pub mod TileFacts
 pub mod Shapes
 pub mod Numbered
 pub mod GridTexts
 pub mod Ends
 pub mod RegionRows
+pub mod Sums
+pub mod Draws
+pub mod GeneratedRows
+pub mod Depths
 pub mod FirstValues
 pub mod BlockPlaces
+pub mod UnitPlaces
 pub mod RecordedRows
 pub mod RecordedEntries
 pub mod Pictures
@@ -21,3 +25,6 @@ pub mod PictureRows
 pub mod Begins
 pub mod Reports
 pub mod WrittenShapes
+pub mod UnitsFit
+pub mod ChromaPlanes
+pub mod Refused

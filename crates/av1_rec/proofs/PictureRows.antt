@@ -1,7 +1,7 @@
 -- What a text that is read to its end says of the picture: its rows have the frame's sides, and their samples the
 -- frame's depth.
 use Rattle.std.proofs.Common.{◌≡◌, ◌==◌, ℕ, ℤ, zero, suc, pos, ◌<◌, ◌^◌, List, [], ◌∷◌, length, get_or, Bool, true, false, cond, All, Option, Some, None, Result, Ok, Err, refl, sym, ap, subst, ◌∙◌, arith}
-use Rattle.std.specs.Prelude.{codes, nat_lt, IfOk}
+use Rattle.std.specs.Prelude.{codes, nat_lt}
 use Rattle.std.specs.List.{list_all}
 use Rattle.std.proofs.lemmas.Option.{option_and_then_some, same_Some}
 use Rattle.std.proofs.lemmas.List.Sums.{list_all-from_AllPass}
@@ -10,16 +10,15 @@ use Rattle.av1_plane.specs.declared.three.Three.{Three}
 use Rattle.av1_plane.specs.Numbers.{InDepth}
 use Rattle.av1_plane.specs.Sampling.{decimation}
 use Rattle.av1_tiling.specs.declared.tiling_info.TilingInfo.{TilingInfo}
+use Rattle.av1_tiling.specs.Frames.{FitsDepth}
 use Rattle.av1_rec.specs.declared.text.extent.Extent.{Extent}
 use Rattle.av1_rec.specs.declared.text.fault.Fault.{Fault}
-use Rattle.av1_rec.specs.declared.text.fault.TextError.{TextError}
 use Rattle.av1_rec.specs.declared.text.header.FrameFormat.{FrameFormat}
 use Rattle.av1_rec.specs.declared.text.header.Header.{Header}
 use Rattle.av1_rec.specs.declared.text.Text.{Text}
-use Rattle.av1_rec.specs.Built.{is_built}
 use Rattle.av1_rec.specs.Fields.{tag, below, hex_sample, option_bind}
 use Rattle.av1_rec.specs.Header.{IsHeader}
-use Rattle.av1_rec.specs.Lines.{◌>>=◌, text_line, line_or, row, many, text_rows, planes, Gives}
+use Rattle.av1_rec.specs.Lines.{◌>>=◌, text_line, line_or, row, many, text_rows, planes}
 use Rattle.av1_rec.specs.Text.{Said, tiling, source_rows, tiles, end, body, said, luma_picture, chroma_picture, is_wide}
 use Rattle.av1_rec.specs.Read.{IsRead}
 use Rattle.av1_rec.specs.Picture.{AreRowsOf, HasPictureRows, AreBelow, IsPictureBelow}
@@ -149,18 +148,8 @@ read_right h t text s right tiled e =
       depth = subst (λ (x : Header). IsPictureBelow (2 ^ x.format.depth) s.source) (sym same) p.3;
     }
 
--- what the program keeps of a text is so
-pub body_read : {X : Type 0} (number : X → ℤ) (h : Header) (t : TilingInfo) (text : List ℕ) (r : Result (Text X) TextError)
-    → IsHeader h → tiling h ≡ Ok t → Gives (said number) r (body h t text) → IfOk r (λ x. IsRead (said number x))
-body_read number h t text (Ok x) right tiled gives = read_right h t text (said number x) right tiled gives
-body_read number h t text (Err e) right tiled gives = tt
-
--- it has the header and the tiling
-pub body_built : {X : Type 0} (number : X → ℤ) (h : Header) (t : TilingInfo) (text : List ℕ) (r : Result (Text X) TextError)
-    → is_built h t ≡ true → Gives (said number) r (body h t text) → IfOk r (λ x. is_built x.header x.tiling ≡ true)
-body_built number h t text (Ok x) built gives =
-    let p = body_right h t text (said number x) gives in
-    let header : x.header ≡ h = p.0 in
-    let tiling : x.tiling ≡ t = p.1 in
-    rw (header, tiling) built
-body_built number h t text (Err e) built gives = tt
+-- what the program keeps of a text is so, and has samples of the type of its depth
+pub text_read : {X : Type 0} (number : X → ℤ) (limit : ℕ) (h : Header) (t : TilingInfo) (text : List ℕ) (x : Text X)
+    → IsHeader h → tiling h ≡ Ok t → FitsDepth limit h.format.depth → body h t text ≡ Ok (said number x) → IsRead (said number x) × FitsDepth limit x.header.format.depth
+text_read number limit h t text x right tiled fits e =
+    (read_right h t text (said number x) right tiled e, subst (λ (y : Header). FitsDepth limit y.format.depth) (sym (body_right h t text (said number x) e).0) fits)

@@ -8,14 +8,15 @@ use Rattle.av1_plane.specs.Place.{stored_at, rect_start, origin_place}
 use Rattle.av1_rec.specs.Report.{row_line, plane_text, planes_text}
 
 -- one row more
-rows_more : {X : Type 0} (step width y : ℕ) (s : List X) → rows step width (suc y) s ≡ rows step width y s ++ take width (drop (y * step) s) ∷ []
+pub rows_more : {X : Type 0} (step width y : ℕ) (s : List X) → rows step width (suc y) s ≡ rows step width y s ++ take width (drop (y * step) s) ∷ []
 unfolding rows
 rows_more step width zero s = let k : 0 * step ≡ 0 = omega arith in rw k refl
 rows_more step width (suc y) s =
     let k : suc y * step ≡ step + y * step = omega arith in
     ap (λ (l : List (List _)). take width s ∷ l) (rows_more step width y (drop step s)) ∙ rw (k, drop-drop (y * step) step s) refl
 
-map_take : {X Y : Type 0} (f : X → Y) (n : ℕ) (l : List X) → map f (take n l) ≡ take n (map f l)
+-- a front of a list, each entry changed
+pub map_take : {X Y : Type 0} (f : X → Y) (n : ℕ) (l : List X) → map f (take n l) ≡ take n (map f l)
 map_take f zero l = refl
 map_take f (suc n) [] = refl
 map_take f (suc n) (x ∷ l) = ap (λ (m : List _). f x ∷ m) (map_take f n l)
@@ -53,7 +54,8 @@ planes_snoc wide p (rows ∷ planes) last =
     ∙ ap (λ (n : ℕ). plane_text wide p rows ++ (planes_text wide (p + 1) planes ++ plane_text wide n last)) k
     ∙ sym (append_assoc (plane_text wide p rows) (planes_text wide (p + 1) planes) (plane_text wide (p + suc (length planes)) last))
 
-taken_count : {X Y : Type 0} (f : X → Y) (xs : List X) (p : ℕ) → p ≤ length xs → length (map f (take p xs)) ≡ p
+-- as many as are taken
+pub taken_count : {X Y : Type 0} (f : X → Y) (xs : List X) (p : ℕ) → p ≤ length xs → length (map f (take p xs)) ≡ p
 taken_count f xs zero le = refl
 taken_count f [] (suc p) le = absurd (omega arith)
 taken_count f (x ∷ xs) (suc p) le = let e = taken_count f xs p (omega arith) in omega arith

@@ -1,10 +1,12 @@
 -- What is reported of a coded frame, by what coding it left.
-use Rattle.std.proofs.Common.{◌≡◌, ℕ, List, ltb, ap, ◌∙◌}
+use Rattle.std.proofs.Common.{◌≡◌, ℕ, List, Result, Ok, Err, IsErr, IsErrAnd, IfErr, ltb, sym, subst, ap, ◌∙◌}
+use Rattle.av1_frame.specs.declared.group_error.GroupError.{GroupError}
 use Rattle.av1_block.specs.declared.block.Block.{Block}
 use Rattle.av1_tiling.specs.declared.tiling_info.TilingInfo.{TilingInfo}
 use Rattle.av1_tiling.specs.Frames.{Parameters, State}
 use Rattle.av1_frame.specs.Outcome.{Job, Holds, job_of, outcome}
-use Rattle.av1_rec.specs.Begin.{frame_parameters, start_state, start_blocks}
+use Rattle.av1_rec.specs.Begin.{start_state, start_blocks}
+use Rattle.av1_rec.specs.Parameters.{frame_parameters}
 use Rattle.av1_rec.specs.Group.{said_job, planes_of, shown, reported}
 use Rattle.av1_rec.specs.Recorded.{recorded_meaning}
 use Rattle.av1_rec.specs.Text.{Said}
@@ -29,3 +31,8 @@ job_is s p first blocks same begun fresh =
     let state : first ≡ start_state s.header s.tiling s.source = begun ∙ ap (λ (a : TilingInfo). start_state s.header a s.source) tiled in
     let table : blocks ≡ start_blocks (frame_parameters s.header s.tiling) = fresh ∙ ap (λ (q : Parameters). start_blocks q) same in
     λ i. job_of (recorded_meaning s.tiling s.tiles) (same i) (state i) (table i)
+
+-- an error that is handed on
+pub handed_on : {A : Type 0} (r : Result A GroupError) (given : GroupError) (P : GroupError → Type 0) → IsErr r × IsErrAnd r (λ e. e ≡ given) → P given → IfErr r P
+handed_on (Ok x) given P h p = tt
+handed_on (Err e) given P h p = subst P (sym h.1) p

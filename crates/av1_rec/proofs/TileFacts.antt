@@ -1,9 +1,17 @@
 -- The tiles of every header's grid lie in its frame, and what their rectangles are in superblocks of 64 samples.
-use Rattle.std.proofs.Common.{◌≡◌, ℕ, ◌-◌, ◌*◌, ◌/◌, ◌^◌, ◌<◌, min, Option, Some, None, Result, Ok, Err, refl, subst, arith}
+use Rattle.std.proofs.Common.{◌≡◌, ℕ, zero, suc, ◌+◌, ◌-◌, ◌*◌, ◌/◌, ◌^◌, ◌<◌, ◌≤◌, min, Bool, true, false, cond, eqb, lit≤, Option, Some, None, Result, Ok, Err, refl, sym, subst, arith}
+use Rattle.std.proofs.Math.Nat.{div-le_self}
+use Rattle.std.proofs.lemmas.Nat.{pow_pos}
+use Rattle.av1_tiling.proofs.GridFacts.{div_ceil-le}
+use Rattle.av1_plane.specs.declared.three.Three.{Three}
+use Rattle.av1_tiling.specs.declared.restoration_plane.RestorationPlaneConfig.{RestorationPlaneConfig}
+use Rattle.av1_tiling.specs.UnitSizes.{unit_log2, unit_layout, unit_layouts, unit_sizes, shifts}
+use Rattle.av1_rec.specs.UnitTables.{IsUnitLayout}
+use Rattle.std.specs.Int.{div_ceil}
 use Rattle.av1_tiling.specs.declared.tiling_info.TilingInfo.{TilingInfo}
-use Rattle.av1_tiling.specs.Frames.{is_422}
+use Rattle.av1_tiling.specs.Frames.{Parameters, is_422}
 use Rattle.av1_tiling.specs.Grid.{grid, round_up}
-use Rattle.av1_tiling.specs.TileRects.{tile_superblock, tile_luma, tile_samples, tile_blocks}
+use Rattle.av1_tiling.specs.TileRects.{tile_superblock, tile_luma, tile_samples, tile_blocks, tile_units}
 use Rattle.av1_tiling.proofs.TilingFacts.{IsTiling, grid_is, grid-sides}
 use Rattle.av1_tiling.proofs.TilePlaces.{tile_luma-inside, tile_count-le}
 use Rattle.av1_tiling.proofs.LawProofs.{cols-pos, tile_high-pos}
@@ -76,3 +84,39 @@ pub blocks_rect : (t : TilingInfo) (n : ℕ) → t.sb_size_log2 ≡ 6 → tile_b
   height = min (t.tile_height_sb * 16) (t.frame_height / 4 - (tile_superblock t n).1 * 16);
 }
 blocks_rect t n e = rw e refl
+
+-- the units of a plane, in superblocks of 64 samples
+pub units_rect : (t : TilingInfo) (h_shift v_shift cols rows n : ℕ) → t.sb_size_log2 ≡ 6 → tile_units t h_shift v_shift cols rows n ≡ record {
+  x = min ((tile_superblock t n).0 / 2 ^ h_shift) cols;
+  y = min ((tile_superblock t n).1 / 2 ^ v_shift) rows;
+  width = min (div_ceil (min t.tile_width_sb (div_ceil t.frame_width 64 - (tile_superblock t n).0)) (2 ^ h_shift)) (cols - min ((tile_superblock t n).0 / 2 ^ h_shift) cols);
+  height = min (div_ceil (min t.tile_height_sb (div_ceil t.frame_height 64 - (tile_superblock t n).1)) (2 ^ v_shift)) (rows - min ((tile_superblock t n).1 / 2 ^ v_shift) rows);
+}
+units_rect t h_shift v_shift cols rows n e = rw e refl
+
+-- a side has no more units than superblocks, and a unit is no further on than its superblock
+pub few_units : (superblock superblocks shift units : ℕ) → (min (superblock / 2 ^ shift) units ≤ superblock) × (min (div_ceil superblocks (2 ^ shift)) (units - min (superblock / 2 ^ shift) units) ≤ superblocks)
+few_units superblock superblocks shift units =
+    let some : 0 < 2 ^ shift = pow_pos shift in
+    let first = div-le_self superblock (2 ^ shift) in
+    let count = div_ceil-le superblocks (2 ^ shift) some in
+    (omega (arith, first), omega (arith, count))
+
+-- a unit has at most 256 samples a side
+log_most : (a b c : Bool) → cond a 8 (cond b 7 (cond c 6 5)) ≤ 8
+log_most true b c = lit≤ tt
+log_most false true c = lit≤ tt
+log_most false false true = lit≤ tt
+log_most false false false = lit≤ tt
+
+shifts_most : (p : Parameters) (unit : ℕ) (d : ℕ × ℕ) → IsUnitLayout (unit_layout p unit d)
+shifts_most p unit d =
+    let most : unit_log2 unit ≤ 8 = log_most (eqb unit 256) (eqb unit 128) (eqb unit 64) in
+    record { h_shift = omega (arith, most); v_shift = omega (arith, most) }
+
+-- so are the layouts of a frame's units
+pub layout_shifts : (p : Parameters) (layouts : Three RestorationPlaneConfig) → layouts ≡ unit_layouts p → IsUnitLayout layouts.y × (IsUnitLayout layouts.u × IsUnitLayout layouts.v)
+layout_shifts p layouts e =
+    let sizes = unit_sizes p in
+    subst (λ (l : Three RestorationPlaneConfig). IsUnitLayout l.y × (IsUnitLayout l.u × IsUnitLayout l.v)) (sym e)
+    (shifts_most p sizes.luma (0, 0), (shifts_most p sizes.chroma (shifts p), shifts_most p sizes.chroma (shifts p)))

@@ -3,6 +3,7 @@ use Rattle.std.specs.Prelude.{◌≡◌, ◌⊎◌, Option, Some, None, IfSome, 
 use Rattle.std.specs.Io.KnownBytes.{Appends}
 use Rattle.av1_rec.specs.declared.program.commands.Command.{Command}
 use Rattle.av1_rec.specs.declared.program.commands.Command.TheVariants.{Group, Tiles, Gen}
+use Rattle.av1_rec.specs.declared.program.report.Form.TheVariants as forms
 use Rattle.av1_rec.specs.declared.program.status.Status.{Status}
 use Rattle.av1_rec.specs.declared.program.status.Status.TheVariants as status
 use Rattle.av1_rec.specs.declared.text.fault.Fault.{Fault}
@@ -11,28 +12,35 @@ use Rattle.av1_rec.specs.Commands.{reads, asks_for_text}
 use Rattle.av1_rec.specs.GridText.{grid_text}
 use Rattle.av1_rec.specs.Group.{Answer, refused, group_answer}
 use Rattle.av1_rec.specs.Statuses.{refusal_line}
-use Rattle.av1_rec.specs.Text.{tiled_header, text_of, line_number}
+use Rattle.av1_rec.specs.Generated.{generated, generated_header}
+use Rattle.av1_rec.specs.Text.{tiling, tiled_header, text_of, line_number}
 use Rattle.av1_rec.specs.Told.{Prefixed}
 
--- where a text is wrong, has no tiling, or asks for what isn't built
+-- where a text is wrong or has no tiling
 abbrev pub fault_answer : List ℕ → Fault → Answer
 fault_answer text (faults.Wrong left) = refused (status.Syntax (line_number text left))
 fault_answer text faults.NoTiling = refused status.NoTiling
-fault_answer text faults.NotBuilt = refused status.NotBuilt
 
 -- of a text that isn't too long, for the report of its frame
 unfoldable pub text_answer : List ℕ → Answer
-text_answer text = elim (text_of text) [ Ok said ↦ group_answer said | Err fault ↦ fault_answer text fault ]
+text_answer text = elim (text_of text) [ Ok said ↦ group_answer forms.Report said | Err fault ↦ fault_answer text fault ]
 
 -- for its tile grid: only the header is looked at
 unfoldable pub grid_answer : List ℕ → Answer
 grid_answer text = elim (tiled_header text) [ Ok h ↦ (status.Done, grid_text h.1) | Err fault ↦ fault_answer text fault ]
 
--- for what a command asks for
+-- of a number, for the summary of the frame that is made from it
+unfoldable pub generated_answer : ℕ → Answer
+generated_answer seed = elim (tiling generated_header) [
+  | Ok t ↦ group_answer forms.Summary (generated generated_header t seed)
+  | Err fault ↦ fault_answer [] fault
+]
+
+-- for what a command asks for; no number of workers changes it
 abbrev pub answer_of : Command → List ℕ → Answer
 answer_of (Group workers) text = text_answer text
 answer_of Tiles text = grid_answer text
-answer_of (Gen seed workers) text = refused status.NotBuilt
+answer_of (Gen seed workers) text = generated_answer seed
 
 -- of all that a source gave
 unfoldable pub input_answer : Command → List ℕ → Answer
@@ -43,7 +51,7 @@ input_answer command text = if nat_lt (2 ^ 28) (length text) then refused status
 unfoldable pub asked : Option Command → Option (List ℕ) → Option Answer
 asked None left = Some (refused status.Usage)
 asked (Some command) left =
-    if reads command then option_map (input_answer command) left else Some (refused status.NotBuilt)
+    if reads command then option_map (input_answer command) left else Some (answer_of command [])
 
 -- how a text alone may end a run
 abbrev pub IsOfText : Status → Type 0
@@ -51,7 +59,6 @@ IsOfText status.Done = Unit {0}
 IsOfText (status.Syntax line) = Unit {0}
 IsOfText status.NoTiling = Unit {0}
 IsOfText (status.Group error) = Unit {0}
-IsOfText status.NotBuilt = Unit {0}
 IsOfText s = ⊥
 
 -- what is printed after a read that failed

@@ -39,9 +39,9 @@ command_of (name ∷ n ∷ []) = group_command name n
 command_of (name ∷ k ∷ n ∷ []) = gen_command name k n
 command_of (name ∷ k ∷ n ∷ more ∷ words) = None
 
--- whether a command reads a text; the others aren't built yet
+-- whether a command reads a text
 abbrev pub reads : Command → Bool
-reads (Group workers) = workers == 1
+reads (Group workers) = true
 reads Tiles = true
 reads (Gen seed workers) = false
 

@@ -7,11 +7,15 @@ use Rattle.av1_tiling.specs.Frames.{Parameters, State}
 use Rattle.av1_frame.specs.Coding.{refusal}
 use Rattle.av1_frame.specs.Outcome.{Job, job_of, outcome}
 use Rattle.av1_frame.specs.Reference.{visible_picture}
+use Rattle.av1_rec.specs.declared.program.report.Form.{Form}
+use Rattle.av1_rec.specs.declared.program.report.Form.TheVariants as forms
 use Rattle.av1_rec.specs.declared.program.status.Status.{Status}
 use Rattle.av1_rec.specs.declared.program.status.Status.TheVariants as status
-use Rattle.av1_rec.specs.Begin.{frame_parameters, start_state, start_blocks}
+use Rattle.av1_rec.specs.Begin.{start_state, start_blocks}
+use Rattle.av1_rec.specs.Parameters.{frame_parameters}
 use Rattle.av1_rec.specs.Recorded.{recorded_meaning}
 use Rattle.av1_rec.specs.Report.{Reported, report}
+use Rattle.av1_rec.specs.Summary.{summary}
 use Rattle.av1_rec.specs.Statuses.{refusal_line}
 use Rattle.av1_rec.specs.Text.{Said}
 
@@ -60,11 +64,16 @@ reported j =
       planes = planes_of j.parameters.sequence.chroma_sampling o.reference;
     }
 
--- the report of the outcome, or why the results are refused
-unfoldable pub group_answer : Said → Answer
-group_answer s =
+-- the text of what is reported
+abbrev pub reported_text : Form → Reported → List ℕ
+reported_text forms.Report r = report r
+reported_text forms.Summary r = summary r
+
+-- the report of the outcome, or its summary, or why the results are refused
+unfoldable pub group_answer : Form → Said → Answer
+group_answer form s =
     let job = said_job s in
     elim (refusal job.parameters job.results) [
       | Some error ↦ refused (status.Group error)
-      | None ↦ (status.Done, report (reported job))
+      | None ↦ (status.Done, reported_text form (reported job))
     ]

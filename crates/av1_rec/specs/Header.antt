@@ -145,3 +145,4 @@ pub record IsHeader (h : Header) : Type 0 where
   pub damping : (3 ≤ h.cdef.damping) × (h.cdef.damping ≤ 6)
   pub y_strengths : All (λ s. s ≤ 63) h.cdef.y_strengths
   pub uv_strengths : All (λ s. s ≤ 63) h.cdef.uv_strengths
+  pub large : may_be_large h.format h.switches.enable_restoration h.switches.enable_large_lru ≡ true

@@ -6,7 +6,7 @@ pub mod Header
 pub mod Blocks
 pub mod Units
 pub mod Tiles
-pub mod Built
+pub mod Parameters
 pub mod Tile
 pub mod UnitTables
 pub mod Text
@@ -16,8 +16,10 @@ pub mod Commands
 pub mod Group
 pub mod Answer
 pub mod Report
+pub mod Summary
 pub mod GridText
 pub mod BlockTable
 pub mod Recorded
 pub mod Picture
 pub mod Begin
+pub mod Generated

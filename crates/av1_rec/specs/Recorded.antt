@@ -1,29 +1,36 @@
 -- What a coder of recorded results makes of a view: the bytes recorded for the tile that begins at the view's first
--- superblock, and the view with the tile's recorded samples and blocks. Samples are recorded where they are inside the
+-- superblock, and the view with the tile's recorded samples, blocks and restoration units. Samples are recorded where they are inside the
 -- plane, whose sides are whole blocks of 8 luma samples; the rest of the view stays. Tiles are counted row by row (AV1
 -- specification, section 5.11.1).
 use Rattle.std.specs.Prelude.{ℕ, ℤ, ◌+◌, ◌-◌, ◌*◌, ◌==◌, ◌&&◌, nat_lt, min, List, [], ◌∷◌, length, Bool, Option, Some, None, if◌then◌else◌}
+use Rattle.std.specs.Global.{Vec}
 use Rattle.std.specs.List.{list_all, flat_map}
 use Rattle.av1_plane.specs.declared.three.Three.{Three}
 use Rattle.av1_block.specs.declared.block.Block.{Block}
+use Rattle.av1_block.specs.declared.restoration_unit.RestorationUnit.{RestorationUnit}
 use Rattle.av1_block.specs.Cut.{with_cut}
 use Rattle.av1_tiling.specs.declared.tiling_info.TilingInfo.{TilingInfo}
 use Rattle.av1_tiling.specs.TileRects.{tile_superblock}
-use Rattle.av1_tiling.specs.Views.{View, TileState, plane_at, with_samples, with_blocks}
+use Rattle.av1_tiling.specs.Views.{View, TileState, plane_at, with_samples, with_units, with_blocks}
 use Rattle.av1_rec.specs.Lines.{said_planes}
 use Rattle.av1_rec.specs.declared.coder.recorded_tile.RecordedTile.{RecordedTile}
 use Rattle.av1_rec.specs.declared.coder.recorded_tile.RecordedTile.TheVariants as kept
 
--- a recorded result: the coder refused the tile, or gave its bytes, the rows of its samples inside each plane, and its
--- blocks
+-- a recorded result: the coder refused the tile, or gave its bytes, the rows of its samples inside each plane, its
+-- blocks and its restoration units
 pub data Recorded : Type 0 where
   Refused : Recorded
-  Coded : List ℕ → Three (List (List ℤ)) → List Block → Recorded
+  Coded : List ℕ → Three (List (List ℤ)) → List Block → Three (List RestorationUnit) → Recorded
+
+-- the units of each plane
+abbrev pub unit_lists : Three (Vec RestorationUnit) → Three (List RestorationUnit)
+unit_lists units = record { y = units.y.items; u = units.u.items; v = units.v.items }
 
 -- what is kept of a result, as numbers
 abbrev pub recorded : {X : Type 0} → (X → ℤ) → RecordedTile X → Recorded
 recorded number kept.Refused = Refused
-recorded number (kept.Coded bytes rows blocks) = Coded bytes.items (said_planes number rows) blocks.items
+recorded number (kept.Coded bytes rows blocks units) =
+    Coded bytes.items (said_planes number rows) blocks.items (unit_lists units)
 
 -- tile n is in the grid, and its first superblock is this one
 abbrev pub begins_at : TilingInfo → ℕ × ℕ → ℕ → Bool
@@ -72,16 +79,27 @@ planes_fit t rows =
 abbrev pub with_planes : TileState → Three (List (List ℤ)) → TileState
 with_planes t rows = with_rows (with_rows (with_rows t 0 rows.y) 1 rows.u) 2 rows.v
 
--- the view with the recorded samples and blocks
-abbrev pub with_recorded : View → Three (List (List ℤ)) → List Block → View
-with_recorded v rows blocks = with_blocks (record v { ts = with_planes v.ts rows }) blocks
+-- there are as many units of each plane as the view has
+abbrev pub units_fit : TileState → Three (List RestorationUnit) → Bool
+units_fit t units =
+    length units.y == length t.units.y.entries
+    && (length units.u == length t.units.u.entries && length units.v == length t.units.v.entries)
+
+-- a tile's state with these units of each plane
+abbrev pub with_unit_lists : TileState → Three (List RestorationUnit) → TileState
+with_unit_lists t units = with_units (with_units (with_units t 0 units.y) 1 units.u) 2 units.v
+
+-- the view with the recorded samples, units and blocks
+abbrev pub with_recorded : View → Three (List (List ℤ)) → List Block → Three (List RestorationUnit) → View
+with_recorded v rows blocks units = with_blocks (record v { ts = with_unit_lists (with_planes v.ts rows) units }) blocks
 
 -- what a recorded result makes of a view
 abbrev pub entry_meaning : Option Recorded → View → Option (List ℕ × View)
 entry_meaning None v = None
 entry_meaning (Some Refused) v = None
-entry_meaning (Some (Coded bytes rows blocks)) v =
-    if planes_fit v.ts rows && length blocks == length v.blocks.entries then Some (bytes, with_recorded v rows blocks) else None
+entry_meaning (Some (Coded bytes rows blocks units)) v =
+    if planes_fit v.ts rows && (units_fit v.ts units && length blocks == length v.blocks.entries)
+    then Some (bytes, with_recorded v rows blocks units) else None
 
 -- what the results recorded for the tiles of a grid make of it
 abbrev pub recorded_meaning : TilingInfo → List Recorded → View → Option (List ℕ × View)

@@ -3,7 +3,7 @@ use Rattle.std.specs.Prelude.{ℕ, List, [], ◌++◌, codes, decimal}
 use Rattle.av1_frame.specs.declared.group_error.GroupError.{GroupError}
 use Rattle.av1_frame.specs.declared.group_error.GroupError.TheVariants as errors
 use Rattle.av1_rec.specs.declared.program.status.Status.{Status}
-use Rattle.av1_rec.specs.declared.program.status.Status.TheVariants.{Done, OutOfMemory, Usage, ReadFault, TooLong, Syntax, NoTiling, Group, WriteFault, NotBuilt}
+use Rattle.av1_rec.specs.declared.program.status.Status.TheVariants.{Done, OutOfMemory, Usage, ReadFault, TooLong, Syntax, NoTiling, Group, WriteFault}
 
 abbrev pub status_code : Status → ℕ
 status_code Done = 0
@@ -15,7 +15,6 @@ status_code (Syntax line) = 5
 status_code NoTiling = 6
 status_code (Group error) = 7
 status_code WriteFault = 8
-status_code NotBuilt = 9
 
 -- a word and the tile that is at fault
 unfoldable pub tile_line : List ℕ → ℕ → List ℕ
@@ -42,7 +41,6 @@ refusal_line TooLong = codes "refused too long\n"
 refusal_line (Syntax line) = syntax_line line
 refusal_line NoTiling = codes "refused no tiling\n"
 refusal_line (Group error) = group_line error
-refusal_line NotBuilt = codes "refused not built\n"
 refusal_line Done = []
 refusal_line OutOfMemory = []
 refusal_line WriteFault = []

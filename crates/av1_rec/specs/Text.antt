@@ -1,6 +1,6 @@
 -- The whole text: the header, the source's rows, each tile's result, and the last line. What is said of it is the
 -- fault of the first wrong text_line, that there is no tiling (AV1 specification, section 5.9.15), or what it says.
-use Rattle.std.specs.Prelude.{ℕ, ◌+◌, ◌-◌, ◌*◌, ◌/◌, ◌^◌, ℤ, List, map, take, length, Bool, ◌==◌, nat_lt, if◌then◌else◌, Option, Some, None, Result, Ok, Err, codes}
+use Rattle.std.specs.Prelude.{◌≡◌, ℕ, ◌+◌, ◌-◌, ◌*◌, ◌/◌, ◌^◌, ℤ, pos, List, map, take, length, Bool, ◌==◌, nat_lt, if◌then◌else◌, Option, Some, None, Result, Ok, Err, codes}
 use Rattle.std.specs.List.{count_by}
 use Rattle.av1_plane.specs.declared.three.Three.{Three}
 use Rattle.av1_plane.specs.Layout.{visible}
@@ -15,8 +15,9 @@ use Rattle.av1_rec.specs.declared.text.fault.Fault.{Fault}
 use Rattle.av1_rec.specs.declared.text.fault.Fault.TheVariants.{Wrong, NoTiling}
 use Rattle.av1_rec.specs.declared.text.header.FrameFormat.{FrameFormat}
 use Rattle.av1_rec.specs.declared.text.header.Header.{Header}
+use Rattle.av1_rec.specs.declared.text.FrameText.{FrameText}
+use Rattle.av1_rec.specs.declared.text.FrameText.TheVariants.{Bytes, Words}
 use Rattle.av1_rec.specs.declared.text.Text.{Text}
-use Rattle.av1_rec.specs.Built.{built, is_built}
 use Rattle.av1_rec.specs.Fields.{tag}
 use Rattle.av1_rec.specs.Header.{frame_line, tiling_line, type_line, quant_line, switches_line, deltas_line, cdef_line}
 use Rattle.av1_rec.specs.Lines.{◌>>=◌, text_line, planes, numbered, said_planes}
@@ -54,6 +55,10 @@ tiling h =
       | Some t ↦ Ok t
       | None ↦ Err NoTiling
     ]
+
+-- a header's frame has this tiling
+abbrev pub HasTiling : Header → TilingInfo → Type 0
+HasTiling h t = tiling h ≡ Ok t
 
 -- the header, the tiling of its frame, and the bytes behind
 unfoldable pub tiled_header : List ℕ → Result (Header × TilingInfo × List ℕ) Fault
@@ -124,7 +129,6 @@ body h t text = do
 unfoldable pub text_of : List ℕ → Result Said Fault
 text_of text = do
   h ← tiled_header text
-  _ ← built (is_built h.0 h.1)
   body h.0 h.1 h.2
 
 -- the number of the line that begins where so many bytes are left, or of which a part begins there
@@ -139,3 +143,8 @@ said number t = record {
   source = said_planes number t.source;
   tiles = map (recorded number) t.tiles.items;
 }
+
+-- and of samples of either type
+abbrev pub frame_said : FrameText → Said
+frame_said (Bytes t) = said pos t
+frame_said (Words t) = said pos t

@@ -8,11 +8,11 @@ use Rattle.av1_rec.specs.declared.text.fault.Fault.{Fault}
 use Rattle.av1_rec.specs.declared.text.fault.Fault.TheVariants.{Wrong}
 use Rattle.av1_rec.specs.Blocks.{block_line}
 use Rattle.av1_rec.specs.BlockTable.{blocks_said}
-use Rattle.av1_rec.specs.Built.{built, is_built_count}
 use Rattle.av1_rec.specs.Fields.{tag, field, hex_byte, option_bind}
 use Rattle.av1_rec.specs.Lines.{◌>>=◌, text_line, many, planes}
 use Rattle.av1_rec.specs.Recorded.{Recorded, Refused, Coded}
-use Rattle.av1_rec.specs.Units.{UnitLine, unit_line}
+use Rattle.av1_rec.specs.declared.text.unit_line.UnitLine.{UnitLine}
+use Rattle.av1_rec.specs.Units.{unit_line, tile_units_said}
 
 -- how many bytes stand before the line feed
 unfoldable pub line_length : List ℕ → ℕ
@@ -38,22 +38,24 @@ count_line word text = option_bind (tag word text) (λ rest. option_bind (field 
 unfoldable pub unit_lines : Three Extent → List ℕ → Result (List UnitLine × List ℕ) Fault
 unit_lines units text = do
   count ← text_line (count_line (codes "units")) text
-  _ ← built (is_built_count count.0)
   many (text_line (unit_line units)) count.0 count.1
 
 -- samples of four digits have 16 bits, those of two 8
 abbrev pub digit_limit : Bool → ℕ
 digit_limit wide = if wide then 65536 else 256
 
--- BYTES, the rows of each plane, the blocks that lines write, and the lines of units
+-- BYTES, the rows of each plane, and the blocks and the units that lines write
 unfoldable pub coded : Bool → TileShape → Three Extent → List ℕ → Result (Recorded × List ℕ) Fault
 coded wide shape units text = do
   bytes ← bytes_line text
   rows ← planes wide (digit_limit wide) shape.luma shape.chroma bytes.1
   count ← text_line (count_line (codes "blocks")) rows.1
   lines ← many (text_line (block_line shape.blocks.width shape.blocks.height)) count.0 count.1
-  units ← unit_lines units lines.1
-  Ok (Coded bytes.0 rows.0 (blocks_said shape.blocks.width shape.blocks.height lines.0), units.1)
+  set ← unit_lines units lines.1
+  Ok (
+    Coded bytes.0 rows.0 (blocks_said shape.blocks.width shape.blocks.height lines.0) (tile_units_said units set.0),
+    set.1,
+  )
 
 -- `refused`, or a coded tile
 unfoldable pub tile_result : Bool → TileShape → Three Extent → List ℕ → Result (Recorded × List ℕ) Fault

@@ -1,22 +1,15 @@
 -- Lines that set restoration units of a tile: no filter, a Wiener filter or a self-guided one (AV1 specification,
 -- section 5.11.58).
-use Rattle.std.specs.Prelude.{ℕ, ℤ, List, [], ◌∷◌, ◌==◌, nat_lt, if◌then◌else◌, Option, Some, None, codes}
+use Rattle.std.specs.Prelude.{ℕ, ℤ, ◌*◌, ◌/◌, ◌%◌, List, [], ◌∷◌, Bool, ◌==◌, ◌&&◌, nat_lt, if◌then◌else◌, Option, Some, None, codes}
 use Rattle.av1_plane.specs.declared.three.Three.{Three}
+use Rattle.av1_block.specs.declared.restoration_unit.RestorationFilter.{RestorationFilter}
+use Rattle.av1_block.specs.declared.restoration_unit.RestorationFilter.TheVariants as filters
+use Rattle.av1_block.specs.declared.restoration_unit.RestorationUnit.{RestorationUnit}
+use Rattle.av1_block.specs.RestorationUnit.{no_unit}
 use Rattle.av1_rec.specs.declared.text.extent.Extent.{Extent}
+use Rattle.av1_rec.specs.declared.text.unit_line.UnitLine.{UnitLine}
+use Rattle.av1_rec.specs.BlockTable.{first_values}
 use Rattle.av1_rec.specs.Fields.{◌>>=◌, tag, number_in, field, delta}
-
--- what a unit does: nothing, the coefficients of both directions, or a set and two weights
-pub data UnitFilter : Type 0 where
-  NoFilter : UnitFilter
-  Wiener : List ℤ → List ℤ → UnitFilter
-  SelfGuided : ℕ → List ℤ → UnitFilter
-
--- a unit of a plane, counted from the tile's first one
-pub record UnitLine : Type 0 where
-  pub plane : ℕ
-  pub x : ℕ
-  pub y : ℕ
-  pub filter : UnitFilter
 
 -- a space, and a number below a limit
 unfoldable pub unit_place : ℕ → List ℕ → Option (ℕ × List ℕ)
@@ -33,26 +26,26 @@ three_taps text = do
   Some (a.0 ∷ b.0 ∷ c.0 ∷ [], c.1)
 
 -- ` wiener A B C D E F`
-unfoldable pub wiener_unit : List ℕ → Option (UnitFilter × List ℕ)
+unfoldable pub wiener_unit : List ℕ → Option (RestorationFilter × List ℕ)
 wiener_unit text = do
   rest ← tag (codes " wiener") text
   vertical ← three_taps rest
   horizontal ← three_taps vertical.1
-  Some (Wiener vertical.0 horizontal.0, horizontal.1)
+  Some (filters.Wiener (vertical.0 ∷ horizontal.0 ∷ []), horizontal.1)
 
 -- ` sgrproj SET W0 W1`
-unfoldable pub self_guided : List ℕ → Option (UnitFilter × List ℕ)
+unfoldable pub self_guided : List ℕ → Option (RestorationFilter × List ℕ)
 self_guided text = do
   rest ← tag (codes " sgrproj") text
   set ← field 0 255 rest
   first ← delta set.1
   second ← delta first.1
-  Some (SelfGuided set.0 (first.0 ∷ second.0 ∷ []), second.1)
+  Some (filters.Sgrproj set.0 (first.0 ∷ second.0 ∷ []), second.1)
 
 -- ` none`, or one of those
-unfoldable pub filter : List ℕ → Option (UnitFilter × List ℕ)
-filter text = elim (tag (codes " none") text) [
-  | Some rest ↦ Some (NoFilter, rest)
+unfoldable pub unit_filter : List ℕ → Option (RestorationFilter × List ℕ)
+unit_filter text = elim (tag (codes " none") text) [
+  | Some rest ↦ Some (filters.None, rest)
   | None ↦ elim (wiener_unit text) [ Some x ↦ Some x | None ↦ self_guided text ]
 ]
 
@@ -66,6 +59,28 @@ unit_line units text = do
   p ← number_in 0 2 text
   x ← unit_place (of_plane p.0 units).width p.1
   y ← unit_place (of_plane p.0 units).height x.1
-  f ← filter y.1
+  f ← unit_filter y.1
   rest ← tag (codes "\n") f.1
-  Some (record { plane = p.0; x = x.0; y = y.0; filter = f.0 }, rest)
+  Some (record { plane = p.0; x = x.0; y = y.0; unit = record { filter = f.0 } }, rest)
+
+-- whether a line sets the unit at column x of row y of a plane
+abbrev pub sets : UnitLine → (p x y : ℕ) → Bool
+sets line p x y = line.plane == p && (line.x == x && line.y == y)
+
+-- the unit at column x of row y of a plane, where `before` stood: the last line that sets it decides
+abbrev pub unit_after : RestorationUnit → List UnitLine → (p x y : ℕ) → RestorationUnit
+unit_after before [] p x y = before
+unit_after before (line ∷ lines) p x y = unit_after (if sets line p x y then line.unit else before) lines p x y
+
+-- a tile's units of a plane, row by row, which leave their samples as they are where no line says more
+unfoldable pub units_said : Extent → ℕ → List UnitLine → List RestorationUnit
+units_said units p lines =
+    first_values (λ k. unit_after no_unit lines p (k % units.width) (k / units.width)) (units.width * units.height)
+
+-- those of all planes
+abbrev pub tile_units_said : Three Extent → List UnitLine → Three (List RestorationUnit)
+tile_units_said units lines = record {
+  y = units_said units.y 0 lines;
+  u = units_said units.u 1 lines;
+  v = units_said units.v 2 lines;
+}

@@ -7,6 +7,7 @@
 
 mod coder;
 mod frame;
+mod generated;
 mod program;
 mod text;
 

@@ -5,6 +5,7 @@ ghost use Rattle.av1_rec.specs.Commands.{command_of, asks_for_text};
 ghost use Rattle.av1_rec.specs.Told.{Rose, LosesCount};
 
 pub(crate) mod commands;
+pub(crate) mod generated;
 pub(crate) mod grid_report;
 pub(crate) mod group;
 pub(crate) mod memory_sink;
@@ -15,9 +16,11 @@ pub(crate) mod sink;
 pub(crate) mod source;
 pub(crate) mod status;
 pub(crate) mod std_streams;
+pub(crate) mod summary;
 pub(crate) mod transfer;
 
 use crate::program::commands::Command;
+use crate::program::generated::generated_answer;
 use crate::program::grid_report::grid_report;
 use crate::program::group::group;
 use crate::program::refusals::{line_number, refused};
@@ -31,7 +34,7 @@ use av1_frame::Gate;
 use std::alloc::{AllocError, Global};
 use std::thread::Threads;
 
-// Where a text is wrong, has no tiling, or asks for what isn't built.
+// Where a text is wrong or has no tiling.
 fn fault_answer(alloc: Global, text: &[u8], fault: Fault) -> Result<(Status, Vec<u8>), AllocError>
     requires { length text.now ≤ 2 ^ 28 }
     ensures value { IfOk result (λ x. (x.0, x.1.items) ≡ fault_answer text.now fault) }
@@ -39,7 +42,6 @@ fn fault_answer(alloc: Global, text: &[u8], fault: Fault) -> Result<(Status, Vec
 {
     match fault {
         Fault::NoTiling => refused(alloc, Status::NoTiling),
-        Fault::NotBuilt => refused(alloc, Status::NotBuilt),
         Fault::Wrong(left) => {
             let line = line_number(text, left);
             refused(alloc, Status::Syntax { line })
@@ -53,6 +55,7 @@ fn text_answer<R: Threads + Sync, G: Gate>(
     rt: &R,
     alloc: Global,
     text: Vec<u8>,
+    workers: usize,
     gate: &G,
 ) -> Result<(Status, Vec<u8>), AllocError>
     requires { length text.items ≤ 2 ^ 28 }
@@ -62,7 +65,7 @@ fn text_answer<R: Threads + Sync, G: Gate>(
     match text_of(alloc, &text) {
         Ok(said) => {
             drop(text);
-            group(rt, alloc, said, gate)
+            group(rt, alloc, said, workers, gate)
         }
         Err(TextError::OutOfMemory) => Err(AllocError),
         Err(TextError::Fault(fault)) => fault_answer(alloc, &text, fault),
@@ -96,9 +99,11 @@ fn answer_of<R: Threads + Sync, G: Gate>(
     ensures kind { IfOk result (λ x. IsOfText x.0) }
 {
     match command {
-        Command::Group { .. } => text_answer(rt, alloc, text, gate),
+        Command::Group { workers } => text_answer(rt, alloc, text, workers as usize, gate),
         Command::Tiles => grid_answer(alloc, &text),
-        Command::Gen { .. } => refused(alloc, Status::NotBuilt),
+        Command::Gen { seed, workers } => {
+            generated_answer(rt, alloc, seed, workers as usize, gate)
+        }
     }
 }
 
@@ -114,7 +119,8 @@ fn try_make<R: Threads + Sync, S: Source, G: Gate>(
     ensures made { let command = command_of (map string_bytes words.now) in IfOk result
         (λ x. Made command (asked command (S.left source.old))
         (Rose (S.faults source.old) (S.faults source.new)) x.0 x.1.items) }
-    ensures drained { IfOk result (λ x. x.0 ≡ Status.Done
+    ensures drained { asks_for_text (command_of (map string_bytes words.now)) ≡ true
+        → IfOk result (λ x. x.0 ≡ Status.Done
         → IfSome (S.left source.old) (λ _. S.left source.new ≡ Some [])) }
     ensures too_long { IfOk result (λ x. x.0 ≡ Status.TooLong
         → LosesCount (S.left source.old) (S.left source.new) (2 ^ 28 + 1)) }
@@ -127,7 +133,7 @@ fn try_make<R: Threads + Sync, S: Source, G: Gate>(
         return refused(alloc, Status::Usage);
     };
     if !command.reads() {
-        return refused(alloc, Status::NotBuilt);
+        return answer_of(rt, alloc, command, Vec::new(alloc), gate);
     }
     match read_text(alloc, source) {
         Ok(text) => answer_of(rt, alloc, command, text, gate),
@@ -148,7 +154,8 @@ fn make<R: Threads + Sync, S: Source, G: Gate>(
     ensures made { let command = command_of (map string_bytes words.now) in
         Made command (asked command (S.left source.old))
         (Rose (S.faults source.old) (S.faults source.new)) result.0 result.1.items }
-    ensures drained { result.0 ≡ Status.Done
+    ensures drained { asks_for_text (command_of (map string_bytes words.now)) ≡ true
+        → result.0 ≡ Status.Done
         → IfSome (S.left source.old) (λ _. S.left source.new ≡ Some []) }
     ensures too_long { result.0 ≡ Status.TooLong
         → LosesCount (S.left source.old) (S.left source.new) (2 ^ 28 + 1) }
@@ -178,9 +185,10 @@ fn finish<K: Sink>(sink: &mut K, status: Status, printed: &[u8]) -> Status
 
 /// Runs the command in `words`, those behind the program's name, and writes what it prints to `sink`.
 ///
-/// `group 1` reads a text from `source` to its end and writes the report of its tile group, of one tile
-/// of luma at 8 bits so far; the gate is told of each tile that a worker claims. `tiles` reads a text to
-/// its end and writes the tile grid of its header. Other words read nothing.
+/// `group N` reads a text from `source` to its end, codes its tiles by N workers and writes the report of
+/// its tile group. `tiles` reads a text to its end and writes the tile grid of its header. `gen K N` makes
+/// a frame from K, codes it by N workers and writes its summary. It reads nothing, and so do other words.
+/// The gate is told of each tile that a worker claims. What is written doesn't depend on N.
 #[tactic(auto, using(crate::proofs::Ends::ends))]
 pub fn run<R: Threads + Sync, S: Source, K: Sink, G: Gate>(
     rt: &R,
@@ -195,7 +203,8 @@ pub fn run<R: Threads + Sync, S: Source, K: Sink, G: Gate>(
         (Rose (S.faults source.old) (S.faults source.new))
         (Rose (K.faults sink.old) (K.faults sink.new))
         (K.written sink.old) (K.written sink.new) result }
-    ensures drained { result ≡ Status.Done
+    ensures drained { asks_for_text (command_of (map string_bytes words.now)) ≡ true
+        → result ≡ Status.Done
         → IfSome (S.left source.old) (λ _. S.left source.new ≡ Some []) }
     ensures too_long { result ≡ Status.TooLong
         → LosesCount (S.left source.old) (S.left source.new) (2 ^ 28 + 1) }

@@ -75,9 +75,11 @@ const REPORT: &[u8] =
 
 #[test]
 fn reports_a_right_text(rt: HostRuntime) -> Result<(), Fail> {
-    let (status, printed) = ran(&rt, rt.alloc(), "group 1", right_text(rt.alloc())?)?;
-    assert_eq!(rt; status, Status::Done);
-    assert_eq!(rt; printed.as_slice(), REPORT);
+    for words in ["group 0", "group 1", "group 64"] {
+        let (status, printed) = ran(&rt, rt.alloc(), words, right_text(rt.alloc())?)?;
+        assert_eq!(rt; status, Status::Done);
+        assert_eq!(rt; printed.as_slice(), REPORT);
+    }
     Ok(())
 }
 
@@ -121,8 +123,8 @@ fn refuses_words(rt: HostRuntime) -> Result<(), Fail> {
         ("group", 2, b"refused usage\n".as_slice()),
         ("group 4294967296", 2, b"refused usage\n".as_slice()),
         ("tiles 1", 2, b"refused usage\n".as_slice()),
-        ("group 2", 9, b"refused not built\n".as_slice()),
-        ("gen 7 4294967295", 9, b"refused not built\n".as_slice()),
+        ("gen 7", 2, b"refused usage\n".as_slice()),
+        ("gen 07 1", 2, b"refused usage\n".as_slice()),
     ] {
         let (status, printed) = ran(&rt, rt.alloc(), words, right_text(rt.alloc())?)?;
         assert_eq!(rt; status.code(), code);
@@ -133,9 +135,6 @@ fn refuses_words(rt: HostRuntime) -> Result<(), Fail> {
 
 const FRAME_OF_ONE_COLUMN: &[u8] =
     b"av1rec 1\nframe 1 8 400 8\ntiling 25 1 0 0\ntype key\nquant 100 100\nswitches 1 0 1 1 0\n";
-
-const OTHER_SAMPLING: &[u8] =
-    b"av1rec 1\nframe 16 8 420 8\ntiling 25 1 0 0\ntype key\nquant 100 100\nswitches 1 0 0 0 0\ndeltas 0 0 0 0 0 0 0 0 0 0 0 0 0 0\ncdef 3 0 0 0 0 0 0 0 0 0 0 0 0 0 0 0 0\n";
 
 #[test]
 fn refuses_texts(rt: HostRuntime) -> Result<(), Fail> {
@@ -172,11 +171,10 @@ fn refuses_texts(rt: HostRuntime) -> Result<(), Fail> {
         ),
         (
             tile.as_slice(),
-            b"blocks 0\nunits 1\n",
-            b"refused not built\n",
+            b"blocks 0\nunits 1\n0 1 0 none\n",
+            b"refused syntax line 29\n",
         ),
         (FRAME_OF_ONE_COLUMN, b"", b"refused syntax line 6\n"),
-        (OTHER_SAMPLING, b"", b"refused not built\n"),
         (NO_TILING, b"", b"refused no tiling\n"),
     ] {
         let (_, printed) = ran(&rt, alloc, "group 1", joined(alloc, &[front, rest])?)?;
@@ -408,7 +406,7 @@ fn numbers_statuses(rt: HostRuntime) {
     let error = GroupError::EmptyTile { tile: 0 };
     assert_eq!(rt; Status::Done.code(), 0);
     assert_eq!(rt; Status::Group(error).code(), 7);
-    assert_eq!(rt; Status::NotBuilt.code(), 9);
+    assert_eq!(rt; Status::WriteFault.code(), 8);
 }
 
 #[test]

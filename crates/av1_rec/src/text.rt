@@ -2,19 +2,22 @@
 //!
 //! A line is read whole or not at all. Each function takes the front of the bytes, and gives a value
 //! and the rest.
-ghost use Rattle.std.specs.Prelude.{◌≡◌, ◌≤◌, ◌^◌, ◌/◌, ◌*◌, pos, map, length, true, Ok, Err, Some, None, IfOk, IfSome, IsNone};
+ghost use Rattle.std.specs.Prelude.{◌≡◌, ◌≤◌, ◌^◌, ◌/◌, ◌*◌, map, Ok, Err, None, IfOk, IfSome, IsNone};
 ghost use Rattle.av1_plane.specs.Layout.{visible};
 ghost use Rattle.av1_plane.specs.Sampling.{decimation};
 ghost use Rattle.av1_tiling.specs.TileRects.{tile_luma};
 ghost use Rattle.av1_rec.specs.declared.text.fault.Fault.TheVariants.{NoTiling};
-ghost use Rattle.av1_rec.specs.Built.{is_monochrome, is_built};
 ghost use Rattle.av1_rec.specs.Header.{IsHeader, IsSampleDepth};
 ghost use Rattle.av1_rec.specs.Lines.{Gives, said_planes, numbered};
-ghost use Rattle.av1_rec.specs.Read.{IsRead};
+ghost use Rattle.av1_rec.specs.Read.{IsReadText};
 ghost use Rattle.av1_rec.specs.Recorded.{recorded};
 ghost use Rattle.av1_rec.specs.Tile.{digit_limit};
+ghost use Rattle.av1_rec.specs.Parameters.{frame_parameters};
 ghost use Rattle.av1_rec.specs.Tiles.{IsTile, AreTiles, IsTileShape};
-ghost use Rattle.av1_rec.specs.Text.{tiling, tiled_header, is_wide, chroma_picture, source_rows, luma_of, chroma_of, tile_shape, tile_at, tiles, end, body, text_of, said};
+ghost use Rattle.av1_rec.specs.UnitTables.{unit_extent, unit_extents, IsUnitLayout};
+ghost use Rattle.av1_tiling.specs.Frames.{FitsDepth};
+ghost use Rattle.av1_tiling.specs.UnitSizes.{unit_layouts};
+ghost use Rattle.av1_rec.specs.Text.{tiling, HasTiling, tiled_header, is_wide, chroma_picture, source_rows, luma_of, chroma_of, tile_shape, tile_at, tiles, end, body, text_of, said, frame_said};
 
 pub(crate) mod block_line;
 pub(crate) mod block_table;
@@ -27,18 +30,21 @@ pub(crate) mod hex;
 pub(crate) mod rows;
 pub(crate) mod tile_rects;
 pub(crate) mod tile_text;
+pub(crate) mod unit_line;
+pub(crate) mod unit_table;
 
 use crate::coder::recorded_tile::RecordedTile;
+use crate::frame::begin::frame_invariants;
 use crate::text::extent::{Extent, TileShape};
 use crate::text::fault::{Fault, TextError, wrong};
 use crate::text::fields::tag;
 use crate::text::header::{FrameFormat, Header};
 use crate::text::header_lines::header;
 use crate::text::rows::planes;
-use crate::text::tile_rects::{tile_blocks, tile_luma};
+use crate::text::tile_rects::{tile_blocks, tile_luma, tile_units};
 use crate::text::tile_text::tile;
-use av1_plane::{ChromaSampling, Pixel, Three};
-use av1_tiling::TilingInfo;
+use av1_plane::{ChromaSampling, Frame, FrameAlloc, OutOfMemory, Pixel, Three};
+use av1_tiling::{FrameInvariants, RestorationPlaneConfig, RestorationState, TilingInfo};
 use std::alloc::Global;
 
 /// What a text says: the header, the rows of each plane of the source, and the result of each tile; and
@@ -51,9 +57,16 @@ pub struct Text<T> {
     pub tiles: Vec<RecordedTile<T>>,
 }
 
-// The tiling of a header's frame, if there is one.
+/// What a text says of samples of 8 bits, or of more.
+#[derive(Drop)]
+pub enum FrameText {
+    Bytes(Text<u8>),
+    Words(Text<u16>),
+}
+
+/// The tiling of a header's frame, if there is one.
 #[tactic(auto, unfolding(crate::specs::Text::tiling))]
-fn tiling_of(header: &Header) -> Option<TilingInfo>
+pub fn tiling_of(header: &Header) -> Option<TilingInfo>
     ensures some { IfSome result (λ t. tiling header.now ≡ Ok t) }
     ensures none { IsNone result → tiling header.now ≡ Err NoTiling }
 {
@@ -85,19 +98,6 @@ pub fn tiled_header(text: &[u8]) -> Result<(Header, TilingInfo, &[u8]), TextErro
     }
 }
 
-// Whether the program runs texts with this header and tiling.
-#[tactic(auto, unfolding(crate::specs::Built::is_built))]
-fn is_built(header: &Header, tiling: &TilingInfo) -> bool
-    requires { tiling.now.cols * tiling.now.rows ≤ 4096 }
-    ensures { result ≡ is_built header.now tiling.now }
-{
-    header.format.sampling == ChromaSampling::Cs400
-        && header.format.depth == 8
-        && !header.switches.enable_cdef
-        && !header.switches.enable_restoration
-        && tiling.cols * tiling.rows == 1
-}
-
 // No samples in a plane.
 const NO_SAMPLES: Extent = Extent {
     width: 0,
@@ -113,8 +113,8 @@ fn visible(side: u32, dec: usize) -> u32
     if dec == 0 { side } else { (side + 1) / 2 }
 }
 
-// The picture's samples in each chroma plane.
-fn chroma_picture(format: &FrameFormat) -> Extent
+/// The picture's samples in each chroma plane.
+pub fn chroma_picture(format: &FrameFormat) -> Extent
     requires width { format.now.width ≤ 65536 }
     requires height { format.now.height ≤ 65536 }
     ensures { result ≡ chroma_picture format.now (decimation format.now.sampling) }
@@ -206,22 +206,87 @@ fn tile_shape(format: &FrameFormat, tiling: &TilingInfo, n: usize) -> TileShape
     }
 }
 
+/// How the units of each plane are laid out. Only the sides of the frame made here matter.
+pub fn unit_layouts<T: Pixel + Drop>(
+    alloc: Global,
+    header: &Header,
+    tiling: TilingInfo,
+) -> Result<Three<RestorationPlaneConfig>, OutOfMemory>
+    requires header { IsHeader header.now }
+    requires tiling { HasTiling header.now tiling }
+    requires depth { FitsDepth T.limit header.now.format.depth }
+    ensures { IfOk result (λ layouts. layouts ≡ unit_layouts (frame_parameters header.now tiling)) }
+{
+    let fi: FrameInvariants<T> = frame_invariants(alloc, header, tiling)?;
+    let frame = Frame::new(alloc, fi.width, fi.height, header.format.sampling)?;
+    let units = RestorationState::new(alloc, &fi, &frame)?;
+    let Three { y, u, v } = units.planes;
+    Ok(Three {
+        y: y.cfg,
+        u: u.cfg,
+        v: v.cfg,
+    })
+}
+
+// How many units of a plane tile `n` has.
+fn unit_extent(tiling: &TilingInfo, cfg: &RestorationPlaneConfig, n: usize) -> Extent
+    requires tile { IsTile tiling.now n }
+    requires layout { IsUnitLayout cfg.now }
+    ensures { result ≡ unit_extent tiling.now cfg.now n }
+{
+    let units = tile_units(tiling, cfg, n);
+    Extent {
+        width: units.width as u32,
+        height: units.height as u32,
+    }
+}
+
+// How many units of each plane tile `n` has.
+fn tile_unit_extents(
+    tiling: &TilingInfo,
+    layouts: &Three<RestorationPlaneConfig>,
+    n: usize,
+) -> Three<Extent>
+    requires tile { IsTile tiling.now n }
+    requires y { IsUnitLayout layouts.now.y }
+    requires u { IsUnitLayout layouts.now.u }
+    requires v { IsUnitLayout layouts.now.v }
+    ensures { result ≡ unit_extents tiling.now layouts.now n }
+{
+    Three {
+        y: unit_extent(tiling, &layouts.y, n),
+        u: unit_extent(tiling, &layouts.u, n),
+        v: unit_extent(tiling, &layouts.v, n),
+    }
+}
+
 // The result of tile `n`.
+#[tactic(auto, unfolding(crate::specs::UnitTables::tile_unit_extents))]
 fn tile_at<'a, T: Pixel + Drop>(
     alloc: Global,
     header: &Header,
     tiling: &TilingInfo,
+    layouts: &Three<RestorationPlaneConfig>,
     n: usize,
     text: &'a [u8],
 ) -> Result<(RecordedTile<T>, &'a [u8]), TextError>
     requires tile { IsTile tiling.now n }
     requires few { n ≤ 4096 }
+    requires layouts { layouts.now ≡ unit_layouts (frame_parameters header.now tiling.now) }
     requires limit { digit_limit (is_wide header.now.format) ≤ T.limit }
     ensures { Gives (λ x. (recorded T.number x.0, x.1.now)) result
         (tile_at header.now tiling.now n text.now) }
 {
     let shape = tile_shape(&header.format, tiling, n);
-    tile(alloc, header.format.depth > 8, &shape, n as u32, text)
+    let units = tile_unit_extents(tiling, layouts, n);
+    tile(
+        alloc,
+        header.format.depth > 8,
+        &shape,
+        &units,
+        n as u32,
+        text,
+    )
 }
 
 // The results of all tiles, in order.
@@ -232,15 +297,19 @@ fn tiles<'a, T: Pixel + Drop>(
     tiling: &TilingInfo,
     text: &'a [u8],
 ) -> Result<(Vec<RecordedTile<T>>, &'a [u8]), TextError>
+    requires header { IsHeader header.now }
+    requires tiling { HasTiling header.now tiling.now }
     requires tiles { AreTiles tiling.now }
+    requires depth { FitsDepth T.limit header.now.format.depth }
     requires limit { digit_limit (is_wide header.now.format) ≤ T.limit }
     ensures { Gives (λ x. (map (recorded T.number) x.0.items, x.1.now)) result
         (tiles header.now tiling.now text.now) }
 {
+    let layouts = unit_layouts::<T>(alloc, header, *tiling)?;
     let mut tiles = Vec::new(alloc);
     let mut rest = text;
     for n in 0..tiling.tile_count() {
-        let (one, after) = tile_at(alloc, header, tiling, n, rest)?;
+        let (one, after) = tile_at(alloc, header, tiling, &layouts, n, rest)?;
         tiles.push(one)?;
         rest = after;
     }
@@ -261,7 +330,7 @@ fn end(text: &[u8]) -> Result<(), TextError>
 }
 
 // What follows the header.
-#[tactic(auto, unfolding(crate::specs::Text::body))]
+#[tactic(auto, unfolding(crate::specs::Text::body), using(crate::proofs::Depths::depths))]
 fn body<T: Pixel + Drop>(
     alloc: Global,
     header: Header,
@@ -269,9 +338,9 @@ fn body<T: Pixel + Drop>(
     text: &[u8],
 ) -> Result<Text<T>, TextError>
     requires header { IsHeader header }
+    requires tiling { HasTiling header tiling }
     requires tiles { AreTiles tiling }
-    requires samples { 2 ^ header.format.depth ≤ T.limit }
-    requires digits { digit_limit (is_wide header.format) ≤ T.limit }
+    requires depth { FitsDepth T.limit header.format.depth }
     ensures { Gives (said T.number) result (body header tiling text.now) }
 {
     let (source, rest) = source(alloc, &header.format, text)?;
@@ -286,16 +355,17 @@ fn body<T: Pixel + Drop>(
 }
 
 /// What the text says, or what is wrong with it.
-#[tactic(auto, unfolding(crate::specs::Text::text_of))]
-pub fn text_of(alloc: Global, text: &[u8]) -> Result<Text<u8>, TextError>
-    ensures value { Gives (said pos) result (text_of text.now) }
-    ensures read { IfOk result (λ t. IsRead (said pos t)) }
-    ensures built { IfOk result (λ t. is_built t.header t.tiling ≡ true) }
+#[tactic(auto, unfolding(crate::specs::Text::text_of), using(crate::proofs::Depths::depths))]
+pub fn text_of(alloc: Global, text: &[u8]) -> Result<FrameText, TextError>
+    ensures value { Gives frame_said result (text_of text.now) }
+    ensures read { IfOk result IsReadText }
 {
     let (header, tiling, rest) = tiled_header(text)?;
-    if is_built(&header, &tiling) {
-        body(alloc, header, tiling, rest)
+    if header.format.depth == 8 {
+        let said = body(alloc, header, tiling, rest)?;
+        Ok(FrameText::Bytes(said))
     } else {
-        Err(TextError::Fault(Fault::NotBuilt))
+        let said = body(alloc, header, tiling, rest)?;
+        Ok(FrameText::Words(said))
     }
 }

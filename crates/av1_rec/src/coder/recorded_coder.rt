@@ -3,6 +3,7 @@ ghost use Rattle.av1_rec.specs.Recorded.{begins_at, recorded_entry, recorded, re
 
 use crate::coder::recorded_rows::{planes_fit, write_planes};
 use crate::coder::recorded_tile::RecordedTile;
+use crate::coder::recorded_units::{units_fit, write_units};
 use av1_frame::{CodeError, TileCoder};
 use av1_plane::Pixel;
 use av1_tiling::{TileContextMut, TilingInfo};
@@ -84,15 +85,18 @@ impl<T: Pixel + Send + Sync> TileCoder<T> for RecordedCoder<T> {
                     bytes,
                     rows,
                     blocks,
+                    units,
                 },
             ) => {
-                if !planes_fit(&ctx.ts, rows) || blocks.len() != ctx.blocks().len() {
+                let fits = planes_fit(&ctx.ts, rows) && units_fit(&ctx.ts, units);
+                if !fits || blocks.len() != ctx.blocks().len() {
                     return Err(CodeError::Refused);
                 }
                 let Ok(bytes) = Vec::from_slice(alloc, bytes) else {
                     return Err(CodeError::OutOfMemory);
                 };
                 write_planes(&mut ctx.ts, rows);
+                write_units(&mut ctx.ts, units);
                 ctx.blocks_mut().copy_from_slice(blocks);
                 Ok(bytes)
             }

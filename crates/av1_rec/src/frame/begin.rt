@@ -3,21 +3,25 @@ ghost use Rattle.std.specs.Prelude.{◌≡◌, ◌≤◌, IfOk};
 ghost use Rattle.av1_tiling.specs.Frames.{IsFrame, IsInputFor, IsStateFor};
 ghost use Rattle.av1_rec.specs.Lines.{said_planes};
 ghost use Rattle.av1_rec.specs.Picture.{source_frame, HasPictureRows};
-ghost use Rattle.av1_rec.specs.Begin.{frame_parameters, start_state};
+ghost use Rattle.av1_rec.specs.Begin.{start_state};
+ghost use Rattle.av1_rec.specs.Parameters.{frame_parameters};
 
 use crate::frame::picture::source_frame;
 use crate::text::header::Header;
 use av1_plane::{OutOfMemory, Pixel, Plane, Three};
-use av1_tiling::{FrameInvariants, FrameState, Sequence, TilingInfo};
+use av1_tiling::{FrameInvariants, FrameState, ReferenceFramesSet, Sequence, TilingInfo};
 use std::alloc::Global;
-use std::marker::PhantomData;
 use std::sync::Arc;
 
-/// The parameters of a header's frame, whose sides are 1 to 65536.
-pub fn frame_invariants<T>(header: &Header, tiling: TilingInfo) -> FrameInvariants<T>
+/// The parameters of a header's frame, whose sides are 1 to 65536. Nothing is kept of other frames.
+pub fn frame_invariants<T: Pixel>(
+    alloc: Global,
+    header: &Header,
+    tiling: TilingInfo,
+) -> Result<FrameInvariants<T>, OutOfMemory>
     requires width { (1 ≤ header.now.format.width) × (header.now.format.width ≤ 65536) }
     requires height { (1 ≤ header.now.format.height) × (header.now.format.height ≤ 65536) }
-    ensures { result ≡ frame_parameters header.now tiling }
+    ensures { IfOk result (λ fi. fi ≡ frame_parameters header.now tiling) }
 {
     let format = &header.format;
     let width = format.width as usize;
@@ -31,7 +35,7 @@ pub fn frame_invariants<T>(header: &Header, tiling: TilingInfo) -> FrameInvarian
         enable_large_lru: header.switches.enable_large_lru,
         tiling,
     };
-    FrameInvariants {
+    Ok(FrameInvariants {
         sequence,
         width,
         height,
@@ -51,8 +55,8 @@ pub fn frame_invariants<T>(header: &Header, tiling: TilingInfo) -> FrameInvarian
         render_width: format.width,
         render_height: format.height,
         refresh_frame_flags: 0,
-        sample: PhantomData,
-    }
+        rec_buffer: ReferenceFramesSet::new(alloc)?,
+    })
 }
 
 /// The state that coding a header's frame begins with. The half and the quarter plane are empty.

@@ -82,13 +82,12 @@ impl Command {
         }
     }
 
-    /// Whether the command reads a text. The others aren't built yet.
+    /// Whether the command reads a text.
     pub fn reads(&self) -> bool
         ensures { result ≡ reads self.now }
     {
         match self {
-            Command::Group { workers } => *workers == 1,
-            Command::Tiles => true,
+            Command::Group { .. } | Command::Tiles => true,
             Command::Gen { .. } => false,
         }
     }

@@ -67,7 +67,6 @@ pub fn refusal_line(alloc: Global, status: Status) -> Result<Vec<u8>, AllocError
         Status::Syntax { line } => syntax_line(alloc, line),
         Status::NoTiling => copy(alloc, b"refused no tiling\n"),
         Status::Group(error) => group_line(alloc, error),
-        Status::NotBuilt => copy(alloc, b"refused not built\n"),
         Status::Done | Status::OutOfMemory | Status::WriteFault => Ok(Vec::new(alloc)),
     }
 }

@@ -6,6 +6,15 @@ use av1_plane::{Pixel, PlaneRegion};
 use itoa::Buffer;
 use std::alloc::{AllocError, Global};
 
+/// How a coded frame is printed.
+#[derive(Clone, Copy, Debug, PartialEq, Eq)]
+pub enum Form {
+    /// Its bytes and all samples of its picture.
+    Report,
+    /// How many bytes there are, and the sum of each plane's samples.
+    Summary,
+}
+
 /// What is reported of a frame beside its samples.
 #[derive(Clone, Copy, Debug)]
 pub struct Results<'a> {
@@ -64,8 +73,8 @@ fn put_sample(out: &mut Vec<u8>, wide: bool, n: u16) -> Result<(), AllocError>
     }
 }
 
-// The number of a sample.
-fn number_of<T: Pixel>(sample: T) -> u16
+/// The number of a sample.
+pub fn number_of<T: Pixel>(sample: T) -> u16
     ensures { result ≡ natural (T.number sample) }
 {
     sample.to_i32() as u16
@@ -140,7 +149,7 @@ fn put_planes<T: Pixel>(
     Ok(())
 }
 
-fn put_levels(out: &mut Vec<u8>, levels: &[u8]) -> Result<(), AllocError>
+pub fn put_levels(out: &mut Vec<u8>, levels: &[u8]) -> Result<(), AllocError>
     ensures { OnOk result (out.new.items ≡ out.old.items ++ flat_map spaced levels.now) }
 {
     for level in levels {

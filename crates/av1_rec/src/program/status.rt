@@ -23,12 +23,10 @@ pub enum Status {
     Group(GroupError),
     /// A write failed. A part was written.
     WriteFault,
-    /// The command or the text asks for what isn't built yet.
-    NotBuilt,
 }
 
 impl Status {
-    /// The number that the program ends with, 0 to 9.
+    /// The number that the program ends with, 0 to 8.
     pub fn code(&self) -> u8
         ensures { result ≡ status_code self.now }
     {
@@ -42,7 +40,6 @@ impl Status {
             Status::NoTiling => 6,
             Status::Group(_) => 7,
             Status::WriteFault => 8,
-            Status::NotBuilt => 9,
         }
     }
 }

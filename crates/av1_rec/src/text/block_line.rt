@@ -2,7 +2,7 @@ ghost use Rattle.std.specs.Prelude.{◌≡◌, ◌≤◌, ◌+◌, option_map, I
 ghost use Rattle.av1_rec.specs.Fields.{field, choice};
 ghost use Rattle.av1_rec.specs.Blocks.{block_sizes, tx_sizes, modes, references, rectangle, kind, sides, deltas, block_line};
 
-use crate::text::fields::{choice, delta, field, flag, number_in, tag};
+use crate::text::fields::{byte, choice, delta, field, flag, number_in, tag};
 use av1_block::{Block, BlockSize, MotionVector, PredictionMode, RefType, TxSize};
 
 /// A rectangle of a tile's blocks, and the block that is written there, without motion.
@@ -137,14 +137,6 @@ fn reference(text: &[u8]) -> Option<(RefType, &[u8])>
     ensures { option_map (λ x. (x.0, x.1.now)) result ≡ choice references text.now }
 {
     choice(&REFERENCES, text)
-}
-
-// A space, and a number of eight bits.
-fn byte(text: &[u8]) -> Option<(u8, &[u8])>
-    ensures { option_map (λ x. (x.0, x.1.now)) result ≡ field 0 255 text.now }
-{
-    let (n, rest) = field(0, 255, text)?;
-    Some((n as u8, rest))
 }
 
 // `X Y COLS ROWS`

@@ -10,8 +10,6 @@ pub enum Fault {
     Wrong(usize),
     /// The header has no tiling.
     NoTiling,
-    /// The text asks for what isn't built yet.
-    NotBuilt,
 }
 
 /// Why a text gave nothing.
@@ -25,6 +23,14 @@ impl From<AllocError> for TextError {
     ghost from_gives = { λ _ e. e ≡ OutOfMemory };
 
     fn from(_e: AllocError) -> TextError {
+        TextError::OutOfMemory
+    }
+}
+
+impl From<av1_plane::OutOfMemory> for TextError {
+    ghost from_gives = { λ _ e. e ≡ OutOfMemory };
+
+    fn from(_e: av1_plane::OutOfMemory) -> TextError {
         TextError::OutOfMemory
     }
 }

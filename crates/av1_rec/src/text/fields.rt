@@ -93,6 +93,14 @@ pub fn field(low: u32, high: u32, text: &[u8]) -> Option<(u32, &[u8])>
     number_in(low, high, rest)
 }
 
+/// A space, and a number of eight bits.
+pub fn byte(text: &[u8]) -> Option<(u8, &[u8])>
+    ensures { option_map (λ x. (x.0, x.1.now)) result ≡ field 0 255 text.now }
+{
+    let (n, rest) = field(0, 255, text)?;
+    Some((n as u8, rest))
+}
+
 fn positive(n: u32) -> i32
     requires { n < 256 }
     ensures { result ≡ pos n }

@@ -1,4 +1,4 @@
-ghost use Rattle.std.specs.Prelude.{◌≡◌, ◌≤◌, All, option_map, IfSome, IfOk};
+ghost use Rattle.std.specs.Prelude.{◌≡◌, ◌≤◌, All, true, option_map, IfSome, IfOk};
 ghost use Rattle.av1_rec.specs.Fields.{field};
 ghost use Rattle.av1_rec.specs.Header.{sampling_of, sampling, depth, frame_line, tiling_line, type_line, quant_line, may_be_large, switches_line, eight_deltas, deltas_line, eight_strengths, cdef_line, IsSampleDepth, IsHeader};
 ghost use Rattle.av1_rec.specs.Lines.{Gives};
@@ -126,7 +126,9 @@ fn may_be_large(format: &FrameFormat, restoration: bool, large: bool) -> bool
 /// The line `switches FAST CDEF RESTORATION LARGE NOUPDATE` of a frame of this format.
 #[tactic(auto, unfolding(crate::specs::Header::switches_line))]
 pub fn switches_line<'a>(format: &FrameFormat, text: &'a [u8]) -> Option<(Switches, &'a [u8])>
-    ensures { option_map (λ x. (x.0, x.1.now)) result ≡ switches_line format.now text.now }
+    ensures value { option_map (λ x. (x.0, x.1.now)) result ≡ switches_line format.now text.now }
+    ensures large { IfSome result (λ x.
+        may_be_large format.now x.0.enable_restoration x.0.enable_large_lru ≡ true) }
 {
     let rest = tag(text, b"switches")?;
     let (fast, rest) = flag(rest)?;

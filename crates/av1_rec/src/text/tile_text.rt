@@ -1,21 +1,22 @@
-ghost use Rattle.std.specs.Prelude.{◌≡◌, ◌≤◌, [], option_map};
-ghost use Rattle.av1_plane.specs.declared.three.Three.{Three};
-ghost use Rattle.av1_rec.specs.declared.text.extent.Extent.{Extent};
+ghost use Rattle.std.specs.Prelude.{◌≡◌, ◌≤◌, option_map};
 ghost use Rattle.av1_rec.specs.Blocks.{block_line};
 ghost use Rattle.av1_rec.specs.Fields.{hex_byte};
 ghost use Rattle.av1_rec.specs.Lines.{Gives, text_line, many};
 ghost use Rattle.av1_rec.specs.Tile.{line_length, hex_line, bytes_line, count_line, unit_lines, digit_limit, coded, tile_result, tile};
 ghost use Rattle.av1_rec.specs.Recorded.{recorded};
 ghost use Rattle.av1_rec.specs.Tiles.{IsTileShape};
+ghost use Rattle.av1_rec.specs.Units.{unit_line};
 
 use crate::coder::recorded_tile::RecordedTile;
 use crate::text::block_line::{BlockLine, block_line};
 use crate::text::block_table::blocks_said;
 use crate::text::extent::{Extent, TileShape};
-use crate::text::fault::{Fault, TextError, wrong};
+use crate::text::fault::{TextError, wrong};
 use crate::text::fields::{field, first, tag};
 use crate::text::hex::hex_byte;
 use crate::text::rows::planes;
+use crate::text::unit_line::{UnitLine, unit_line};
+use crate::text::unit_table::tile_units_said;
 use av1_plane::{Pixel, Three};
 use std::alloc::Global;
 
@@ -131,32 +132,63 @@ fn block_lines(
     Ok((lines, rest))
 }
 
-// `units 0`: restoration units aren't built yet.
-#[tactic(auto, unfolding(crate::specs::Tile::unit_lines, crate::specs::Lines::many))]
-fn no_units(text: &[u8]) -> Result<&[u8], TextError>
-    ensures { (units : Three Extent) → Gives (λ rest. ([], rest.now)) result
-        (unit_lines units text.now) }
+// One restoration unit.
+fn one_unit<'a>(units: &Three<Extent>, text: &'a [u8]) -> Result<(UnitLine, &'a [u8]), TextError>
+    ensures { Gives (λ x. (x.0, x.1.now)) result (text_line (unit_line units.now) text.now) }
 {
-    let (count, rest) = count_line(text, b"units").ok_or(wrong(text))?;
-    if count == 0 {
-        Ok(rest)
-    } else {
-        Err(TextError::Fault(Fault::NotBuilt))
+    match unit_line(units, text) {
+        Some(said) => Ok(said),
+        None => Err(wrong(text)),
     }
 }
 
-// Bytes, the rows of each plane, the blocks that lines write, and the lines of units.
+// So many restoration units.
+#[tactic(auto, using(crate::proofs::Many::many_steps))]
+fn many_units<'a>(
+    alloc: Global,
+    units: &Three<Extent>,
+    count: u32,
+    text: &'a [u8],
+) -> Result<(Vec<UnitLine>, &'a [u8]), TextError>
+    ensures { Gives (λ x. (x.0.items, x.1.now)) result
+        (many (text_line (unit_line units.now)) count text.now) }
+{
+    let mut lines = Vec::new(alloc);
+    let mut rest = text;
+    for _ in 0..count {
+        let (one, after) = one_unit(units, rest)?;
+        lines.push(one)?;
+        rest = after;
+    }
+    Ok((lines, rest))
+}
+
+// `units COUNT` and so many lines.
+#[tactic(auto, unfolding(crate::specs::Tile::unit_lines))]
+fn unit_lines<'a>(
+    alloc: Global,
+    units: &Three<Extent>,
+    text: &'a [u8],
+) -> Result<(Vec<UnitLine>, &'a [u8]), TextError>
+    ensures { Gives (λ x. (x.0.items, x.1.now)) result (unit_lines units.now text.now) }
+{
+    let (count, rest) = count_line(text, b"units").ok_or(wrong(text))?;
+    many_units(alloc, units, count, rest)
+}
+
+// Bytes, the rows of each plane, and the blocks and the units that lines write.
 #[tactic(auto, unfolding(crate::specs::Tile::coded))]
 fn coded<'a, T: Pixel + Drop>(
     alloc: Global,
     wide: bool,
     shape: &TileShape,
+    units: &Three<Extent>,
     text: &'a [u8],
 ) -> Result<(RecordedTile<T>, &'a [u8]), TextError>
     requires samples { digit_limit wide ≤ T.limit }
     requires blocks { IsTileShape shape.now }
-    ensures { (units : Three Extent) → Gives (λ x. (recorded T.number x.0, x.1.now)) result
-        (coded wide shape.now units text.now) }
+    ensures { Gives (λ x. (recorded T.number x.0, x.1.now)) result
+        (coded wide shape.now units.now text.now) }
 {
     let limit = if wide { 65536 } else { 256 };
     let Extent { width, height } = shape.blocks;
@@ -164,12 +196,14 @@ fn coded<'a, T: Pixel + Drop>(
     let (rows, rest) = planes(alloc, wide, limit, &shape.luma, &shape.chroma, rest)?;
     let (count, rest) = count_line(rest, b"blocks").ok_or(wrong(rest))?;
     let (lines, rest) = block_lines(alloc, width, height, count, rest)?;
-    let rest = no_units(rest)?;
+    let (set, rest) = unit_lines(alloc, units, rest)?;
     let blocks = blocks_said(alloc, width as usize, height as usize, &lines)?;
+    let units = tile_units_said(alloc, units, &set)?;
     let tile = RecordedTile::Coded {
         bytes,
         rows,
         blocks,
+        units,
     };
     Ok((tile, rest))
 }
@@ -180,35 +214,37 @@ fn tile_result<'a, T: Pixel + Drop>(
     alloc: Global,
     wide: bool,
     shape: &TileShape,
+    units: &Three<Extent>,
     text: &'a [u8],
 ) -> Result<(RecordedTile<T>, &'a [u8]), TextError>
     requires samples { digit_limit wide ≤ T.limit }
     requires blocks { IsTileShape shape.now }
-    ensures { (units : Three Extent) → Gives (λ x. (recorded T.number x.0, x.1.now)) result
-        (tile_result wide shape.now units text.now) }
+    ensures { Gives (λ x. (recorded T.number x.0, x.1.now)) result
+        (tile_result wide shape.now units.now text.now) }
 {
     match tag(text, b"refused\n") {
         Some(rest) => Ok((RecordedTile::Refused, rest)),
-        None => coded(alloc, wide, shape, text),
+        None => coded(alloc, wide, shape, units, text),
     }
 }
 
-/// The recorded result of tile `n`, of this shape.
+/// The recorded result of tile `n`, of this shape, with so many units of each plane.
 #[tactic(auto, unfolding(crate::specs::Tile::tile))]
 pub fn tile<'a, T: Pixel + Drop>(
     alloc: Global,
     wide: bool,
     shape: &TileShape,
+    units: &Three<Extent>,
     n: u32,
     text: &'a [u8],
 ) -> Result<(RecordedTile<T>, &'a [u8]), TextError>
     requires samples { digit_limit wide ≤ T.limit }
     requires blocks { IsTileShape shape.now }
-    ensures { (units : Three Extent) → Gives (λ x. (recorded T.number x.0, x.1.now)) result
-        (tile wide shape.now units n text.now) }
+    ensures { Gives (λ x. (recorded T.number x.0, x.1.now)) result
+        (tile wide shape.now units.now n text.now) }
 {
     let rest = tag(text, b"tile").ok_or(wrong(text))?;
     let (_, rest) = field(n, n, rest).ok_or(wrong(rest))?;
     let rest = tag(rest, b" ").ok_or(wrong(rest))?;
-    tile_result(alloc, wide, shape, rest)
+    tile_result(alloc, wide, shape, units, rest)
 }

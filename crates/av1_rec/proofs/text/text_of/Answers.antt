@@ -1,20 +1,16 @@
-use Rattle.std.proofs.Common.{pos, sym}
-use Rattle.av1_rec.proofs.BuiltDepth.{few_samples, few_digits}
-use Rattle.av1_rec.proofs.PictureRows.{body_read, body_built}
+use Rattle.std.proofs.Common.{pos}
+use Rattle.av1_rec.proofs.Depths.{narrow_depth, wide_depth}
+use Rattle.av1_rec.proofs.PictureRows.{text_read}
 use Rattle.av1_rec.proofs.text.text_of.Goals as goal
 
-pub body-requires-clause-samples : goal.body-requires-clause-samples
-body-requires-clause-samples c = few_samples c.in_ok-header.header c.in_ok-header.tiling (sym c.if-is_built.ensures)
-
-pub body-requires-clause-digits : goal.body-requires-clause-digits
-body-requires-clause-digits c = few_digits c.in_ok-header.header c.in_ok-header.tiling (sym c.if-is_built.ensures)
-
-pub returns-then-is_built-clause-read : goal.returns-then-is_built-clause-read
-returns-then-is_built-clause-read c =
+pub returns-in_ok-said-clause-read : goal.returns-in_ok-said-clause-read
+returns-in_ok-said-clause-read c =
     let front = c.in_ok-header in
-    body_read pos front.header front.tiling front.rest.now c.body.result front.ensures.right front.ensures.tiling c.body.ensures
+    text_read pos 256 front.header front.tiling front.rest.now c.in_ok-said.said front.ensures.right front.ensures.tiling
+    (narrow_depth front.header.format.depth c.if-header-eq8.true) c.in_ok-said.ensures
 
-pub returns-then-is_built-clause-built : goal.returns-then-is_built-clause-built
-returns-then-is_built-clause-built c =
+pub returns-in_ok-said-2-clause-read : goal.returns-in_ok-said-2-clause-read
+returns-in_ok-said-2-clause-read c =
     let front = c.in_ok-header in
-    body_built pos front.header front.tiling front.rest.now c.body.result (sym c.if-is_built.ensures) c.body.ensures
+    text_read pos 65536 front.header front.tiling front.rest.now c.in_ok-said-2.said front.ensures.right front.ensures.tiling
+    (wide_depth front.header.format.depth front.ensures.right.depth c.if-header-eq8.false) c.in_ok-said-2.ensures

@@ -18,7 +18,7 @@ returns-in_err-one g c =
     let count = t.cols * t.rows in
     let read = tile_at c.args.header.now t in
     let inside : c.loop-n.n < count = subst (λ (k : ℕ). c.loop-n.n < k) c.tile_count-n-end.ensures c.loop-n-test.true in
-    let p = err_from_is_err_and c.from_residual.result c.from_residual.ensures.1 in
+    let p = err_from_is_err_and c.from_residual-in_err-one.result c.from_residual-in_err-one.ensures.1 in
     rw (p.1, p.2) (numbered_fails read c.in_err-one.field-0.0 (map (recorded g.T.Pixel.number) c.loop-n.tiles.items) count c.loop-n.n c.loop-n.rest.now (numbered read 0 count c.args.text.now) inside c.in_err-one.ensures c.loop-n.invariant)
 
 pub loop-n-preserved : goal.loop-n-preserved

@@ -14,4 +14,5 @@ returns-clause-made_for g c =
       v_range = made.v_range;
       shift = c.requires.shift;
       motion = made.motion;
+      restoration = made.restoration;
     })

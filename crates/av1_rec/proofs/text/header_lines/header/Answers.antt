@@ -9,4 +9,5 @@ returns-clause-right c = record {
   damping = rw c.in_ok-cdef.ensures.ok_part at c.cdef_line.ensures.damping;
   y_strengths = rw c.in_ok-cdef.ensures.ok_part at c.cdef_line.ensures.y_strengths;
   uv_strengths = rw c.in_ok-cdef.ensures.ok_part at c.cdef_line.ensures.uv_strengths;
+  large = rw c.in_ok-switches.ensures.ok_part at c.switches_line.ensures.large;
 }

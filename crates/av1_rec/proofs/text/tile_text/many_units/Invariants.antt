@@ -1,0 +1,8 @@
+use Rattle.std.proofs.Common.{◌≡◌, ◌-◌}
+use Rattle.av1_rec.specs.Lines.{text_line, many}
+use Rattle.av1_rec.specs.Units.{unit_line}
+use Rattle.av1_rec.proofs.Many.{with_front}
+use Rattle.av1_rec.proofs.text.tile_text.many_units.Given as goal
+
+abbrev pub invariant-loop : goal.invariant-loop
+invariant-loop l = with_front l.lines.items (many (text_line (unit_line l.units)) (l.count - l.counter) l.rest) ≡ many (text_line (unit_line l.units)) l.count l.text
