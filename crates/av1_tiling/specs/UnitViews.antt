@@ -5,7 +5,9 @@ use Rattle.av1_plane.specs.declared.offset.SuperBlockOffset.{SuperBlockOffset}
 use Rattle.av1_block.specs.declared.restoration_unit.RestorationUnit.{RestorationUnit}
 use Rattle.av1_block.specs.declared.tile_view.TileView.{TileView}
 use Rattle.av1_block.specs.RestorationUnit.{no_unit}
+use Rattle.av1_block.specs.declared.tile_view_mut.TileViewMut.{TileViewMut}
 use Rattle.av1_block.specs.Tables.{view_entries, view_step, view_cols, view_rows}
+use Rattle.av1_block.specs.Writing.{entries_under, place_under}
 use Rattle.av1_tiling.specs.declared.unit_side.UnitSide.{UnitSide}
 use Rattle.av1_tiling.specs.declared.restoration_plane.RestorationPlaneConfig.{RestorationPlaneConfig}
 
@@ -77,6 +79,10 @@ view_sides v = (view_cols v, view_rows v)
 -- the unit at a column and row of a view
 abbrev pub unit_at : TileView RestorationUnit → ℕ × ℕ → RestorationUnit
 unit_at v place = slice_index_or (view_entries v) (place.1 * view_step v + place.0) no_unit
+
+-- so of a view for writing
+abbrev pub unit_under : TileViewMut RestorationUnit → ℕ × ℕ → RestorationUnit
+unit_under v place = slice_index_or (entries_under v) (place_under v place.0 place.1) no_unit
 
 -- along both sides it is
 abbrev pub is_last_superblock : RestorationPlaneConfig → ℕ × ℕ → (frame : ℕ × ℕ) → (first s : SuperBlockOffset) → Bool

@@ -1,6 +1,5 @@
 //! The slots of reference frames.
-ghost use Rattle.std.specs.Prelude.{◌≡◌, IfOk};
-ghost use Rattle.std.specs.Prelude.{map, option_map};
+ghost use Rattle.std.specs.Prelude.{◌≡◌, IfOk, map, option_map};
 ghost use Rattle.std.specs.Arc.{arc_value};
 
 use crate::deblock_state::DeblockState;

@@ -1,8 +1,9 @@
 //! A tile's units of a plane, for writing.
-ghost use Rattle.std.specs.Prelude.{◌≡◌, ◌+◌, ◌≤◌, IfSome};
-ghost use Rattle.av1_block.specs.Writing.{window, table_under, lent_name, IsPlaced};
+ghost use Rattle.std.specs.Prelude.{◌≡◌, ◌+◌, ◌≤◌, IfSome, true, drop, option_map};
+ghost use Rattle.av1_block.specs.Tables.{view_entries, view_step, view_x, view_y, view_cols, view_rows};
+ghost use Rattle.av1_block.specs.Writing.{window, table_under, entries_under, place_under, lent_name, IsPlaced};
 ghost use Rattle.av1_block.specs.Windows.{frame_window};
-ghost use Rattle.av1_tiling.specs.UnitViews.{HasShifts, wiener_start, sgrproj_start, unit_index, across_side, down_side, Serves};
+ghost use Rattle.av1_tiling.specs.UnitViews.{HasShifts, wiener_start, sgrproj_start, unit_index, unit_under, across_side, down_side, Serves};
 
 use crate::restoration::{SGRPROJ_XQD_MID, WIENER_TAPS_MID};
 use crate::restoration_plane::{RestorationPlane, RestorationPlaneConfig};
@@ -57,6 +58,15 @@ impl<'a> TileRestorationPlaneMut<'a> {
     pub fn as_const(&self) -> TileRestorationPlane<'_>
         requires { IsPlaced self.now.units }
         ensures cfg { result.rp_cfg.now ≡ self.now.rp_cfg.now }
+        ensures wiener { result.wiener_ref ≡ self.now.wiener_ref }
+        ensures sgrproj { result.sgrproj_ref ≡ self.now.sgrproj_ref }
+        ensures entries { view_entries result.units
+            ≡ drop (place_under self.now.units 0 0) (entries_under self.now.units) }
+        ensures step { view_step result.units ≡ (table_under self.now.units).cols }
+        ensures x { view_x result.units ≡ (window self.now.units).x }
+        ensures y { view_y result.units ≡ (window self.now.units).y }
+        ensures cols { view_cols result.units ≡ (window self.now.units).cols }
+        ensures rows { view_rows result.units ≡ (window self.now.units).rows }
     {
         TileRestorationPlane {
             rp_cfg: self.rp_cfg,
@@ -87,13 +97,16 @@ impl<'a> TileRestorationPlaneMut<'a> {
     }
 
     /// The unit that a superblock of the tile belongs to, for writing; the last one serves the
-    /// frame's superblocks past the tile's units.
+    /// frame's superblocks past the tile's units. Of the view after a write nothing is said.
     pub fn restoration_unit_mut(
         &mut self,
         sbo: TileSuperBlockOffset,
     ) -> Option<&mut RestorationUnit>
         requires shifts { HasShifts self.old.rp_cfg.now }
         requires placed { IsPlaced self.old.units }
+        ensures unit { option_map (λ u. u.now) result ≡ option_map (unit_under self.old.units)
+            (unit_index self.old.rp_cfg.now
+            ((window self.old.units).cols, (window self.old.units).rows) sbo.0 true) }
     {
         let (x, y) = self.restoration_unit_index(sbo, true)?;
         Some(&mut self.units.row_mut(y)[x])
