@@ -47,20 +47,20 @@ cdef_block_height c = 8 / 2 ^ c.ydec
 -- The blocks (section 7.15).
 
 -- the unit at column x of row y of the frame
-abbrev pub unit_at : Deblocked → ℕ → ℕ → Block
-unit_at d x y = entry_at d.blocks d.step (x - 2 * d.x) (y - 2 * d.y)
+abbrev pub frame_unit : Deblocked → ℕ → ℕ → Block
+frame_unit d x y = entry_at d.blocks d.step (x - 2 * d.x) (y - 2 * d.y)
 
 -- block (bx, by) of the frame is skipped where all four units are
 abbrev pub is_skipped : Deblocked → ℕ → ℕ → Bool
 is_skipped d bx by =
-    (unit_at d (2 * bx) (2 * by)).skip
-    && (unit_at d (2 * bx + 1) (2 * by)).skip
-    && (unit_at d (2 * bx) (2 * by + 1)).skip
-    && (unit_at d (2 * bx + 1) (2 * by + 1)).skip
+    (frame_unit d (2 * bx) (2 * by)).skip
+    && (frame_unit d (2 * bx + 1) (2 * by)).skip
+    && (frame_unit d (2 * bx) (2 * by + 1)).skip
+    && (frame_unit d (2 * bx + 1) (2 * by + 1)).skip
 
 -- the index that stands in the first unit of the block's 64x64 part
 abbrev pub index_of : Deblocked → ℕ → ℕ → ℕ
-index_of d bx by = (unit_at d (16 * (bx / 8)) (16 * (by / 8))).cdef_index
+index_of d bx by = (frame_unit d (16 * (bx / 8)) (16 * (by / 8))).cdef_index
 
 -- Settings of a block (section 7.15.1).
 

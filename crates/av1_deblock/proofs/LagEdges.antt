@@ -6,7 +6,7 @@ use Rattle.av1_block.specs.declared.block.Block.{Block}
 use Rattle.av1_deblock.specs.declared.grid.Grid.{Grid}
 use Rattle.av1_deblock.specs.Line.{IsSize}
 use Rattle.av1_deblock.specs.Levels.{level_by, level_index}
-use Rattle.av1_deblock.specs.Edges.{BlockTable, EdgeFilter, place, current, previous, stands, edge_of, filter_at, rounded_cols, rounded_rows, GridFits, IsWithin}
+use Rattle.av1_deblock.specs.Edges.{BlockTable, EdgeFilter, place, current, previous, stands, edge_of, filter_at, rounded_cols, rounded_rows, GridFits, LiesInside}
 use Rattle.av1_deblock.specs.Passes.{plane_grid, plane_cols, plane_rows, block_edges}
 use Rattle.av1_deblock.specs.Laws.{EdgesInRounded}
 use Rattle.av1_deblock.proofs.EdgeFits.{stands_fits, edge_is_sound}
@@ -26,7 +26,7 @@ not_first p h = grind (arith, nat_tests)
 record Fits (g : Grid) (u v : ℕ) (f : EdgeFilter) : Type 0 where
   size : IsSize f.size
   half : f.size / 2 ≤ 4 * place g u v
-  inside : IsWithin (4 * rounded_cols g) (4 * rounded_rows g) (edge_of g.vertical u v f)
+  inside : LiesInside (4 * rounded_cols g) (4 * rounded_rows g) (edge_of g.vertical u v f)
 
 -- the filter that stands at a place
 filter_fits : (g : Grid) (level : Block → Block → ℕ) (t : BlockTable) (u v : ℕ) (f : EdgeFilter) → GridFits g → u < g.cols → v < g.rows → filter_at g level t u v ≡ Some f → Fits g u v f

@@ -8,7 +8,7 @@ use Rattle.std.proofs.lemmas.Grind.{get_or-set_at}
 use Rattle.std.proofs.lemmas.Int.{ints}
 use Rattle.std.proofs.Math.IntN.{+ℤ_assoc, +ℤ_comm, +ℤ_idl, +ℤ_idr}
 use Rattle.av1_deblock.specs.Line.{sample, sum_below}
-use Rattle.av1_deblock.specs.Errors.{by_level, raised, running, IsNear, HasAdded}
+use Rattle.av1_deblock.specs.Errors.{by_level, raised, running, IsBoundedBy, HasAdded}
 
 -- v from t on
 abbrev pub from_on : ℤ → ℕ → ℕ → ℤ
@@ -74,7 +74,7 @@ upper_same : (n m : ℕ) (g : ℤ) → g ≤ℤ pos n → g ≤ℤ pos (n + m)
 upper_same n m g k = omega (arith, ints)
 
 -- entries stay within a bound that moves by as much
-pub near_raised : (n m t : ℕ) (es : List ℤ) (v : ℤ) → t < length es → (pos 0 -ℤ pos m) ≤ℤ v → v ≤ℤ pos m → IsNear n es → IsNear (n + m) (raised es t v)
+pub near_raised : (n m t : ℕ) (es : List ℤ) (v : ℤ) → t < length es → (pos 0 -ℤ pos m) ≤ℤ v → v ≤ℤ pos m → IsBoundedBy n es → IsBoundedBy (n + m) (raised es t v)
 near_raised n m t es v l low high h = record {
   low = λ i. elim (cases_eq i t) [
     | inl e ↦ rw (raised_at es t i v l e) (lower n m (get_or es t (pos 0)) v low (h.low t))
@@ -87,7 +87,7 @@ near_raised n m t es v l low high h = record {
 }
 
 -- entries within a bound are within a greater one
-pub near_wider : (n m : ℕ) (es : List ℤ) → n ≤ m → IsNear n es → IsNear m es
+pub near_wider : (n m : ℕ) (es : List ℤ) → n ≤ m → IsBoundedBy n es → IsBoundedBy m es
 near_wider n m es l h = record {
   low = λ i. grind (arith, h.low i);
   high = λ i. grind (arith, h.high i);

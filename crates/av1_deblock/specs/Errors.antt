@@ -158,7 +158,7 @@ abbrev pub raised : List ℤ → ℕ → ℤ → List ℤ
 raised entries at v = slice_set entries at (sample entries at +ℤ v)
 
 -- entries from -n to n
-pub record IsNear (n : ℕ) (entries : List ℤ) : Type 0 where
+pub record IsBoundedBy (n : ℕ) (entries : List ℤ) : Type 0 where
   pub low : (i : ℕ) → (pos 0 -ℤ pos n) ≤ℤ sample entries i
   pub high : (i : ℕ) → sample entries i ≤ℤ pos n
 
@@ -167,4 +167,4 @@ pub record HasAdded (n : ℕ) (f : ℕ → ℕ) (old new : List ℤ) : Type 0 wh
   pub long : length new ≡ length old
   pub sums : (level : ℕ) → level < 64 → running new level ≡ running old level +ℤ pos (f level)
   pub small : (level : ℕ) → level < 64 → f level ≤ n
-  pub near : (m : ℕ) → IsNear m old → IsNear (m + n) new
+  pub near : (m : ℕ) → IsBoundedBy m old → IsBoundedBy (m + n) new

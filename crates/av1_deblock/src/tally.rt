@@ -3,7 +3,7 @@ ghost use Rattle.av1_plane.specs.Numbers.{Below, InDepth, IsDepth};
 ghost use Rattle.av1_deblock.specs.Line.{IsSize};
 ghost use Rattle.av1_deblock.specs.Columns.{column};
 ghost use Rattle.av1_deblock.specs.Thresholds.{IsScale};
-ghost use Rattle.av1_deblock.specs.Errors.{HasLimits, IsProfile, profile_of, profile_error, marks_error, cells_error, HasProfiles, raised, IsNear, HasAdded};
+ghost use Rattle.av1_deblock.specs.Errors.{HasLimits, IsProfile, profile_of, profile_error, marks_error, cells_error, HasProfiles, raised, IsBoundedBy, HasAdded};
 
 use crate::columns::take_column;
 use crate::line::scale_of;
@@ -42,12 +42,12 @@ fn put_profile(marks: &mut [u32], k: usize, p: Profile)
 #[inline(always)]
 fn add_at(entries: &mut [i64], at: usize, v: i64)
     requires at { at < length entries.old }
-    requires near { IsNear 4611686018427387904 entries.old }
+    requires near { IsBoundedBy 4611686018427387904 entries.old }
     requires low { (pos 0 -ℤ pos 268435456) ≤ℤ v }
     requires high { v ≤ℤ pos 268435456 }
     ensures value { entries.new ≡ raised entries.old at v }
     ensures long { length entries.new ≡ length entries.old }
-    ensures near { (n : ℕ) → IsNear n entries.old → IsNear (n + 268435456) entries.new }
+    ensures near { (n : ℕ) → IsBoundedBy n entries.old → IsBoundedBy (n + 268435456) entries.new }
 {
     entries[at] += v;
 }
@@ -66,12 +66,12 @@ fn difference(a: u32, b: u32) -> i64
 #[inline(always)]
 fn add_difference(entries: &mut [i64], at: usize, a: u32, b: u32)
     requires at { at < length entries.old }
-    requires near { IsNear 4611686018427387904 entries.old }
+    requires near { IsBoundedBy 4611686018427387904 entries.old }
     requires a { a ≤ 268435456 }
     requires b { b ≤ 268435456 }
     ensures value { entries.new ≡ raised entries.old at (pos a -ℤ pos b) }
     ensures long { length entries.new ≡ length entries.old }
-    ensures near { (n : ℕ) → IsNear n entries.old → IsNear (n + 268435456) entries.new }
+    ensures near { (n : ℕ) → IsBoundedBy n entries.old → IsBoundedBy (n + 268435456) entries.new }
 {
     let v = difference(a, b);
     add_at(entries, at, v);
@@ -81,7 +81,7 @@ fn add_difference(entries: &mut [i64], at: usize, a: u32, b: u32)
 #[inline(always)]
 fn add_profile(entries: &mut [i64], p: Profile)
     requires long { length entries.old ≡ 65 }
-    requires near { IsNear 3458764513820540928 entries.old }
+    requires near { IsBoundedBy 3458764513820540928 entries.old }
     requires limits { HasLimits p }
     ensures { HasAdded 805306368 (profile_error p) entries.old entries.new }
 {
@@ -199,7 +199,7 @@ fn fill_each<const SIZE: usize>(
 #[inline(always)]
 fn add_profiles(entries: &mut [i64], marks: &[u32])
     requires long { length entries.old ≡ 65 }
-    requires near { IsNear 2305843009213693952 entries.old }
+    requires near { IsBoundedBy 2305843009213693952 entries.old }
     requires marks { length marks.now ≡ 20 }
     requires limits { (k : ℕ) → k < 4 → HasLimits (profile_of marks.now k) }
     ensures { HasAdded 4294967296 (marks_error marks.now) entries.old entries.new }
@@ -259,7 +259,7 @@ pub fn add_cells<const SIZE: usize>(entries: &mut [i64], cells: &[i32], source: 
     requires cells { length cells.now ≡ 4 * SIZE }
     requires source { length source.now ≡ 4 * SIZE }
     requires long { length entries.old ≡ 65 }
-    requires near { IsNear 2305843009213693952 entries.old }
+    requires near { IsBoundedBy 2305843009213693952 entries.old }
     requires depth { IsDepth bd }
     requires range { Below (2 ^ bd) cells.now }
     requires source_range { Below (2 ^ bd) source.now }

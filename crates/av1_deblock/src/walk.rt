@@ -9,7 +9,7 @@ ghost use Rattle.av1_deblock.specs.Passes.{EdgeBelow, GridBelow, ShowsEdge, Show
 ghost use Rattle.av1_deblock.specs.Conditions.{AreCropSides, CoversBlocks};
 ghost use Rattle.av1_deblock.specs.Frames.{frame_shape};
 ghost use Rattle.av1_deblock.specs.Choice.{error_at, measured_plane, CanTally};
-ghost use Rattle.av1_deblock.specs.Errors.{compared, edge_error, edges_error, at_level, IsNear, HasAdded, IsTally};
+ghost use Rattle.av1_deblock.specs.Errors.{compared, edge_error, edges_error, at_level, IsBoundedBy, HasAdded, IsTally};
 
 use crate::edge::Edge;
 use crate::grid::{BlockRows, Grid, block_rows, is_edge, standing_edge};
@@ -43,7 +43,7 @@ fn add_edge_by<T: Pixel, const SIZE: usize>(
     requires src_range { EdgeBelow (2 ^ bd) 0 (step_seen src.now) edge
         (numbers_seen T.number src.now) }
     requires long { length entries.old ≡ 65 }
-    requires near { IsNear 2305843009213693952 entries.old }
+    requires near { IsBoundedBy 2305843009213693952 entries.old }
     ensures { HasAdded 4294967296
         (λ level. edge_error (compared bd T.number rec.now src.now) (at_level edge level))
         entries.old entries.new }
@@ -72,7 +72,7 @@ fn add_sized<T: Pixel, const SIZE: usize, const CELLS: usize>(
     requires src_range { EdgeBelow (2 ^ bd) 0 (step_seen src.now) edge
         (numbers_seen T.number src.now) }
     requires long { length entries.old ≡ 65 }
-    requires near { IsNear 2305843009213693952 entries.old }
+    requires near { IsBoundedBy 2305843009213693952 entries.old }
     ensures { HasAdded 4294967296
         (λ level. edge_error (compared bd T.number rec.now src.now) (at_level edge level))
         entries.old entries.new }
@@ -109,7 +109,7 @@ fn add_edge<T: Pixel>(
     requires src_range { EdgeBelow (2 ^ bd) 0 (step_seen src.now) edge
         (numbers_seen T.number src.now) }
     requires long { length entries.old ≡ 65 }
-    requires near { IsNear 2305843009213693952 entries.old }
+    requires near { IsBoundedBy 2305843009213693952 entries.old }
     ensures { HasAdded 4294967296
         (λ level. edge_error (compared bd T.number rec.now src.now) (at_level edge level))
         entries.old entries.new }
@@ -147,7 +147,7 @@ fn add_place<T: Pixel>(
     requires u { u < g.cols }
     requires v { v < g.rows }
     requires long { length entries.old ≡ 65 }
-    requires near { IsNear 2305843009213693952 entries.old }
+    requires near { IsBoundedBy 2305843009213693952 entries.old }
     ensures { HasAdded 4294967296 (λ level. edges_error (compared bd T.number rec.now src.now)
         (option_to_list (edge_in_rows g (fixed level) rows.now u v))) entries.old entries.new }
 {
@@ -178,7 +178,7 @@ fn add_between<T: Pixel>(
         (numbers_seen T.number src.now) }
     requires v { v < g.rows }
     requires long { length entries.old ≡ 65 }
-    requires near { IsNear 1729382256910270464 entries.old }
+    requires near { IsBoundedBy 1729382256910270464 entries.old }
     ensures { HasAdded 70368744177664 (λ level. edges_error (compared bd T.number rec.now src.now)
         (row_edges (edge_in_rows g (fixed level) rows.now) v g.cols)) entries.old entries.new }
 {
@@ -209,7 +209,7 @@ fn add_row<T: Pixel>(
         (numbers_seen T.number src.now) }
     requires v { v < g.rows }
     requires long { length entries.old ≡ 65 }
-    requires near { IsNear 1729382256910270464 entries.old }
+    requires near { IsBoundedBy 1729382256910270464 entries.old }
     ensures { HasAdded 70368744177664 (λ level. edges_error (compared bd T.number rec.now src.now)
         (row_edges (edge_at g (fixed level) (blocks_in blocks.now)) v g.cols)) entries.old
         entries.new }
@@ -237,7 +237,7 @@ fn add_edges<T: Pixel>(
     requires src_range { GridBelow (2 ^ bd) 0 (step_seen src.now) g
         (numbers_seen T.number src.now) }
     requires long { length entries.old ≡ 65 }
-    requires near { IsNear 0 entries.old }
+    requires near { IsBoundedBy 0 entries.old }
     ensures { HasAdded 1152921504606846976
         (λ level. edges_error (compared bd T.number rec.now src.now)
         (edges_above (edge_at g (fixed level) (blocks_in blocks.now)) g.cols g.rows)) entries.old

@@ -24,12 +24,12 @@ use Rattle.av1_frame.specs.declared.doing.About.{About}
 use Rattle.av1_frame.specs.AtHome.{IsResult, IsResultOf, GivesResults}
 use Rattle.av1_frame.specs.Coding.{Meaning, KeepsShape}
 use Rattle.av1_frame.specs.Results.{result_of}
-use Rattle.av1_frame.specs.Worked.{IsCodedFrom, IsTile, SaysResult}
+use Rattle.av1_frame.specs.Worked.{IsCodedFrom, IsTileResult, SaysResult}
 use Rattle.av1_frame.proofs.Gathers.{at_slice}
 
 -- a view's result is that of a tile
 pub tile_said : {X : Type 0} (meaning : View → Meaning) (all : List View) (n : ℕ) (v : View) (done : Delivered X) (tile : Option (CodedTile X)) → get_elem? all n ≡ some v
-    → IsResult (meaning v) v done → SaysResult done tile → IsTile meaning all n tile
+    → IsResult (meaning v) v done → SaysResult done tile → IsTileResult meaning all n tile
 tile_said meaning all n v done tile at is says =
     let said = says (meaning v) v is in (v, at, (said.0, subst (KeepsShape v) (sym said.0) said.1))
 
@@ -78,7 +78,7 @@ taken_here (x ∷ xs) (suc n) v e = ap (λ (l : List _). x ∷ l) (taken_here xs
 module _ {X : Type 0} (meaning : View → Meaning) where
   -- one more tile
   pub tiles_more : (all : List View) (n : ℕ) (tile : Option (CodedTile X)) (made more : List (Option (CodedTile X))) → AllZip (IsCodedFrom meaning) (take n all) made
-      → IsTile meaning all n tile → more ≡ made ++ tile ∷ [] → AllZip (IsCodedFrom meaning) (take (n + 1) all) more
+      → IsTileResult meaning all n tile → more ≡ made ++ tile ∷ [] → AllZip (IsCodedFrom meaning) (take (n + 1) all) more
   tiles_more all n tile made more old is pushed =
       let one : n + 1 ≡ suc n = omega arith in
       let taken : take (n + 1) all ≡ take n all ++ is.0 ∷ [] = ap (λ (k : ℕ). take k all) one ∙ taken_here all n is.0 is.1 in

@@ -19,8 +19,8 @@ abbrev pub IsCodedFrom : {X : Type 0} → (View → Meaning) → View → Option
 IsCodedFrom meaning v tile = (result_of tile ≡ meaning v) × KeepsShape v (result_of tile)
 
 -- what it made of view n
-abbrev pub IsTile : {X : Type 0} → (View → Meaning) → List View → ℕ → Option (CodedTile X) → Type 0
-IsTile meaning views n tile = (v : View) × (get_elem? views n ≡ some v) × IsCodedFrom meaning v tile
+abbrev pub IsTileResult : {X : Type 0} → (View → Meaning) → List View → ℕ → Option (CodedTile X) → Type 0
+IsTileResult meaning views n tile = (v : View) × (get_elem? views n ≡ some v) × IsCodedFrom meaning v tile
 
 -- a tile says what its result says, of whatever view that is a result
 abbrev pub SaysResult : {X : Type 0} → Delivered X → Option (CodedTile X) → Type 0

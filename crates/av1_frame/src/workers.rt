@@ -5,7 +5,7 @@ ghost use denote.Param.Send.{IsSync};
 ghost use Rattle.av1_tiling.specs.Frames.{views, IsTilingOf};
 ghost use Rattle.av1_frame.specs.AtHome.{GivesResults, IsResultOf};
 ghost use Rattle.av1_frame.specs.Coding.{KeepsShape};
-ghost use Rattle.av1_frame.specs.Worked.{AreAllHanded, IsCodedFrom, IsTile, SaysResult};
+ghost use Rattle.av1_frame.specs.Worked.{AreAllHanded, IsCodedFrom, IsTileResult, SaysResult};
 ghost use Rattle.av1_frame.specs.Results.{result_of};
 ghost use Rattle.av1_frame.specs.Tables.{tiles, claimed, missed, IsSeatOf};
 
@@ -138,7 +138,7 @@ fn code_here<T: Pixel, C: TileCoder<T>>(
 ) -> Result<Option<CodedTile<T>>, OutOfMemory>
     requires made_for { IsTilingOf tiling.now fs.now blocks.now.cols blocks.now.rows }
     requires tile { tile < length (views tiling.now fs.now blocks.now.entries) }
-    ensures { IfOk result (IsTile (C.meaning coder.now)
+    ensures { IfOk result (IsTileResult (C.meaning coder.now)
         (views tiling.now fs.now blocks.now.entries) tile) }
 {
     let mut contexts = all_contexts(alloc, tiling, fs, blocks)?;
@@ -163,7 +163,7 @@ fn finish_tile<T: Pixel, C: TileCoder<T>>(
       starts = views tiling.now fs.now blocks.now.entries;
       coder = coder.now;
     }) tile) }
-    ensures { IfOk result (IsTile (C.meaning coder.now)
+    ensures { IfOk result (IsTileResult (C.meaning coder.now)
         (views tiling.now fs.now blocks.now.entries) tile) }
 {
     match entry {

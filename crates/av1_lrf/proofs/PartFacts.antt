@@ -10,7 +10,7 @@ use Rattle.av1_lrf.specs.Sums.{rounded_shift, limited, round2}
 use Rattle.av1_lrf.specs.Wiener.{Rounding, reduced}
 use Rattle.av1_lrf.specs.Guided.{Table, box_side, strength, own_weight, mean_part, row_sum, cross_sum, around, around_bits, pass, guided}
 use Rattle.av1_lrf.specs.Integral.{cell}
-use Rattle.av1_lrf.specs.Guides.{cell_weight, cell_mean, HasGuides, guide_line_at, guide_wide_at, cross_at, pass_result, mixed, finished, IsMixOf, IsPlanOf}
+use Rattle.av1_lrf.specs.Guides.{cell_weight, cell_mean, HasGuides, guide_line_at, guide_wide_at, cross_at, pass_result, mixed, guided_sample, IsMixOf, IsPlanOf}
 use Rattle.av1_lrf.proofs.PassFacts.{Cells, cells_made}
 
 -- cells by other words for their values
@@ -139,8 +139,8 @@ pub part_made : (bd set : ℕ) (xqd : List ℤ) (f : Table) (p : Plan) (step wid
     HasGuides (n + 2) m1 (λ i k. cell_mean p.one cells squares step ((y + 1) * step + x + 1 + k * 1 * step + i)) b1 →
     m2 ≡ (if p.two.strength == 0 then 0 else (rows + 1) / 2 + 1) → m1 ≡ (if p.one.strength == 0 then 0 else rows + 2) → x + n ≤ width → y + rows ≤ height → y % 2 ≡ 0 →
     (v : ℕ → ℕ → ℕ) (u w : ℕ) → x ≤ u → u < x + n → y ≤ w → w < y + rows →
-    finished p.mix ((w - y) % 2 == 1) a2 b2 a1 b1 ((w - y) / 2 * 66 + (u - x)) ((w - y) * 66 + (u - x)) (v u w) ≡ guided bd set xqd (w % 2 == 1) f (v u w) (u + 3) (w + 3)
-unfolding finished
+    guided_sample p.mix ((w - y) % 2 == 1) a2 b2 a1 b1 ((w - y) / 2 * 66 + (u - x)) ((w - y) * 66 + (u - x)) (v u w) ≡ guided bd set xqd (w % 2 == 1) f (v u w) (u + 3) (w + 3)
+unfolding guided_sample
 part_made bd set xqd f p step width height cells squares a2 b2 a1 b1 n rows x y m2 m1 h ga2 gb2 ga1 gb1 em2 em1 lx ly even v u w lu hu lw hw =
     ap (λ (odd : Bool). mixed p.mix (pass_result p.mix.strong (guide_wide_at ((w - y) % 2 == 1) a2 ((w - y) / 2 * 66 + (u - x))) (guide_wide_at ((w - y) % 2 == 1) b2 ((w - y) / 2 * 66 + (u - x))) (v u w) (if odd then 8 else 9)) (v u w) (pass_result p.mix.weak (cross_at a1 ((w - y) * 66 + (u - x))) (cross_at b1 ((w - y) * 66 + (u - x))) (v u w) 9)) parity
     ∙ mixed_is bd set xqd (w % 2 == 1) f p.mix _ (v u w) _ (u + 3) (w + 3) h.mix

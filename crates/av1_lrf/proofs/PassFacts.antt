@@ -9,7 +9,7 @@ use Rattle.av1_lrf.specs.Wiener.{IsDepth}
 use Rattle.av1_lrf.specs.Guided.{Table, box, squared, box_side, count, one_by, strength, variation, weight, own_weight, mean_part}
 use Rattle.av1_lrf.specs.Integral.{cell, corner_sum, HasCornerSums}
 use Rattle.av1_lrf.specs.Laws.{SquareBelow, Fits32, IsDirect}
-use Rattle.av1_lrf.specs.Guides.{cell_box, rounded_32, weight_at, index_by, mean_by, cell_weight, cell_mean, IsPass}
+use Rattle.av1_lrf.specs.Guides.{cell_box, rounded_32, weight_at, index_by, mean_by, cell_weight, cell_mean, IsGuidePass}
 use Rattle.av1_lrf.proofs.BoxFacts.{AreSums, box_total}
 use Rattle.av1_lrf.proofs.LawFacts.{box_fits, box_is_direct, depth_most, sums_9, sums_25}
 
@@ -123,7 +123,7 @@ index_same bd n s sum squares shift many strong h l es em et =
     rw (es, em, et, a, d, an, dd, p, r) refl
 
 -- the weight and the mean of a square, by its sums
-weight_made : (bd set radius : ℕ) (f : Table) (g : Guide) (x y sum squares : ℕ) → IsPass bd set radius g →
+weight_made : (bd set radius : ℕ) (f : Table) (g : Guide) (x y sum squares : ℕ) → IsGuidePass bd set radius g →
     SmallSums bd (count radius) (box f (box_side radius) x y) (box (squared f) (box_side radius) x y) → Fits32 bd radius set f x y →
     sum ≡ box f (box_side radius) x y → squares ≡ box (squared f) (box_side radius) x y →
     weight_at (index_by g sum squares) ≡ weight (variation bd (count radius) (box f (box_side radius) x y) (box (squared f) (box_side radius) x y)) (strength set radius)
@@ -163,7 +163,7 @@ pub record Cells (bd set radius : ℕ) (f : Table) (g : Guide) (cells squares : 
   pub mean : cell_mean g cells squares step at ≡ mean_part bd radius (strength set radius) f (x + radius) (y + radius)
 
 -- the weight and the mean in cells are those of the definition
-pub cells_made : (bd set radius : ℕ) (f : Table) (g : Guide) (cells squares : List ℕ) (step cols rows at x y : ℕ) → IsDepth bd → (radius ≡ 1) ⊎ (radius ≡ 2) → IsPass bd set radius g →
+pub cells_made : (bd set radius : ℕ) (f : Table) (g : Guide) (cells squares : List ℕ) (step cols rows at x y : ℕ) → IsDepth bd → (radius ≡ 1) ⊎ (radius ≡ 2) → IsGuidePass bd set radius g →
     HasCornerSums f step cols rows cells → HasCornerSums (squared f) step cols rows squares → ((i j : ℕ) → i < cols → j < rows → f i j < 2 ^ bd) →
     at ≡ y * step + x → x + box_side radius ≤ cols → y + box_side radius ≤ rows → Cells bd set radius f g cells squares step at x y
 unfolding own_weight mean_part

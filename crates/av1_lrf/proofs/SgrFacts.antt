@@ -8,10 +8,10 @@ use Rattle.av1_lrf.specs.declared.guided.Plan.{Plan}
 use Rattle.av1_lrf.specs.Wiener.{IsDepth}
 use Rattle.av1_lrf.specs.Runs.{HasArea}
 use Rattle.av1_lrf.specs.Guided.{Table}
-use Rattle.av1_lrf.specs.Guides.{IsPass, IsMixOf, IsPlanOf, HasTable}
+use Rattle.av1_lrf.specs.Guides.{IsGuidePass, IsMixOf, IsPlanOf, HasTable}
 
 -- a plan for a table, by other words for its numbers
-pub plan_is : (bd set : ℕ) (xqd : List ℤ) (f : Table) (p : Plan) (step w h w' h' : ℕ) (cells squares cells' squares' : List ℕ) → w ≡ w' → h ≡ h' → cells ≡ cells' → squares ≡ squares' → IsDepth bd → IsPass bd set 2 p.two → IsPass bd set 1 p.one → IsMixOf bd set xqd p.mix → HasTable bd f step w h cells squares → IsPlanOf bd set xqd f p step w' h' cells' squares'
+pub plan_is : (bd set : ℕ) (xqd : List ℤ) (f : Table) (p : Plan) (step w h w' h' : ℕ) (cells squares cells' squares' : List ℕ) → w ≡ w' → h ≡ h' → cells ≡ cells' → squares ≡ squares' → IsDepth bd → IsGuidePass bd set 2 p.two → IsGuidePass bd set 1 p.one → IsMixOf bd set xqd p.mix → HasTable bd f step w h cells squares → IsPlanOf bd set xqd f p step w' h' cells' squares'
 plan_is bd set xqd f p step w h w' h' cells squares cells' squares' ew eh ec eq d two one mix t =
     subst (λ (a : ℕ). IsPlanOf bd set xqd f p step a h' cells' squares') ew (subst (λ (b : ℕ). IsPlanOf bd set xqd f p step w b cells' squares') eh
     (subst (λ (a : List ℕ). IsPlanOf bd set xqd f p step w h a squares') ec (subst (λ (a : List ℕ). IsPlanOf bd set xqd f p step w h cells a) eq

@@ -92,12 +92,12 @@ pub record IsMix (m : Mix) : Type 0 where
   pub order : m.limits.low ≤ℤ m.limits.high
 
 -- what is guided by the cells from these places on
-unfoldable pub finished : Mix → Bool → List ℕ → List ℕ → List ℕ → List ℕ → ℕ → ℕ → ℕ → ℤ
-finished m odd a2 b2 a1 b1 p q v =
+unfoldable pub guided_sample : Mix → Bool → List ℕ → List ℕ → List ℕ → List ℕ → ℕ → ℕ → ℕ → ℤ
+guided_sample m odd a2 b2 a1 b1 p q v =
     mixed m (pass_result m.strong (guide_wide_at odd a2 p) (guide_wide_at odd b2 p) v (if odd then 8 else 9)) v (pass_result m.weak (cross_at a1 q) (cross_at b1 q) v 9)
 
 -- the pass of a radius, for a set
-pub record IsPass (bd set radius : ℕ) (g : Guide) : Type 0 where
+pub record IsGuidePass (bd set radius : ℕ) (g : Guide) : Type 0 where
   pub wide : g.side ≡ box_side radius
   pub many : g.count ≡ count radius
   pub mean : g.one_by ≡ one_by (count radius)
@@ -117,8 +117,8 @@ pub record IsMixOf (bd set : ℕ) (xqd : List ℤ) (m : Mix) : Type 0 where
 -- and rows more than the part on each side.
 pub record IsPlanOf (bd set : ℕ) (xqd : List ℤ) (f : Table) (p : Plan) (step width height : ℕ) (cells squares : List ℕ) : Type 0 where
   pub depth : IsDepth bd
-  pub two : IsPass bd set 2 p.two
-  pub one : IsPass bd set 1 p.one
+  pub two : IsGuidePass bd set 2 p.two
+  pub one : IsGuidePass bd set 1 p.one
   pub mix : IsMixOf bd set xqd p.mix
   pub sums : HasCornerSums f step (width + 6) (height + 6) cells
   pub square_sums : HasCornerSums (squared f) step (width + 6) (height + 6) squares

@@ -2,7 +2,7 @@ ghost use Rattle.std.specs.Prelude.{◌≡◌, ◌+◌, ◌-◌, ◌*◌, ◌/�
 ghost use Rattle.av1_lrf.specs.Rows.{sample};
 ghost use Rattle.av1_lrf.specs.Runs.{HasSampleRun, HasArea, HasRowRoom};
 ghost use Rattle.av1_lrf.specs.Guided.{Table, guided};
-ghost use Rattle.av1_lrf.specs.Guides.{AtMost, finished, IsMix, AreWeights, IsGuidedPlan, IsPlanOf};
+ghost use Rattle.av1_lrf.specs.Guides.{AtMost, guided_sample, IsMix, AreWeights, IsGuidedPlan, IsPlanOf};
 
 use crate::block::write;
 use crate::guide::{Guide, guide_rows, weight_of};
@@ -58,7 +58,7 @@ fn finish_row<T: Pixel>(
     requires long_b1 { length b1.now ≡ 4356 }
     requires p { p + n + 68 ≤ 4356 }
     requires q { q + n + 134 ≤ 4356 }
-    ensures { HasSampleRun at n (λ i. finished m odd a2.now b2.now a1.now b1.now (p + i) (q + i)
+    ensures { HasSampleRun at n (λ i. guided_sample m odd a2.now b2.now a1.now b1.now (p + i) (q + i)
         (unsigned_abs (sample (map T.number xs.now) (from + i)))) (map T.number out.old) (map
         T.number out.new) }
 {
@@ -100,7 +100,7 @@ fn finish_line<T: Pixel>(
     requires long_b1 { length b1.now ≡ 4356 }
     requires p { p + n + 68 ≤ 4356 }
     requires q { q + n + 134 ≤ 4356 }
-    ensures { HasSampleRun at n (λ i. finished m odd a2.now b2.now a1.now b1.now (p + i) (q + i)
+    ensures { HasSampleRun at n (λ i. guided_sample m odd a2.now b2.now a1.now b1.now (p + i) (q + i)
         (unsigned_abs (sample (map T.number xs.now) (from + i)))) (map T.number out.old) (map
         T.number out.new) }
 {
@@ -142,7 +142,7 @@ fn finish_by_strengths<T: Pixel>(
     requires long_b1 { length b1.now ≡ 4356 }
     requires p { p + n + 68 ≤ 4356 }
     requires q { q + n + 134 ≤ 4356 }
-    ensures { HasSampleRun at n (λ i. finished m odd a2.now b2.now a1.now b1.now (p + i) (q + i)
+    ensures { HasSampleRun at n (λ i. guided_sample m odd a2.now b2.now a1.now b1.now (p + i) (q + i)
         (unsigned_abs (sample (map T.number xs.now) (from + i)))) (map T.number out.old) (map
         T.number out.new) }
 {
@@ -192,7 +192,7 @@ fn finish_rows<T: Pixel>(
     requires long_b2 { length b2.now ≡ 4356 }
     requires long_a1 { length a1.now ≡ 4356 }
     requires long_b1 { length b1.now ≡ 4356 }
-    ensures { HasArea origin step x (x + n) y (y + rows) (λ c r. finished m ((r - y) % 2 == 1)
+    ensures { HasArea origin step x (x + n) y (y + rows) (λ c r. guided_sample m ((r - y) % 2 == 1)
         a2.now b2.now a1.now b1.now ((r - y) / 2 * 66 + (c - x)) ((r - y) * 66 + (c - x))
         (unsigned_abs (sample (map T.number xs.now) (from + r * stride + c)))) (map T.number
         out.old) (map T.number out.new) }

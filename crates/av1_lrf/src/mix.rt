@@ -1,7 +1,7 @@
 ghost use Rattle.std.specs.Prelude.{◌≡◌, ◌+◌, ◌*◌, ◌<◌, ◌≤◌, ℕ, ℤ, pos, ◌≤ℤ◌, ◌*ℤ◌, length, if◌then◌else◌, true};
 ghost use Rattle.av1_lrf.specs.Integral.{cell};
 ghost use Rattle.av1_lrf.specs.Taps.{IsWithinBound};
-ghost use Rattle.av1_lrf.specs.Guides.{AtMost, guide_line_at, guide_wide_at, cross_at, pass_result, mixed, finished, IsMix};
+ghost use Rattle.av1_lrf.specs.Guides.{AtMost, guide_line_at, guide_wide_at, cross_at, pass_result, mixed, guided_sample, IsMix};
 
 use crate::taps::{Limits, reduce};
 
@@ -136,7 +136,7 @@ fn pass_wide(s: u32, a: u32, b: u32, v: u32, odd: bool) -> u32
 
 // A sample by both passes.
 #[inline(always)]
-#[tactic(auto, unfolding(crate::specs::Guides::finished))]
+#[tactic(auto, unfolding(crate::specs::Guides::guided_sample))]
 pub fn finish(
     m: Mix,
     odd: bool,
@@ -158,7 +158,7 @@ pub fn finish(
     requires long_a1 { q + 134 < length a1.now }
     requires long_b1 { q + 134 < length b1.now }
     requires v { v ≤ 65535 }
-    ensures { result ≡ finished m odd a2.now b2.now a1.now b1.now p q v }
+    ensures { result ≡ guided_sample m odd a2.now b2.now a1.now b1.now p q v }
 {
     let wide_a = wide_of(a2, p, odd);
     let wide_b = wide_of(b2, p, odd);

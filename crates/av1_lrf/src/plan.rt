@@ -4,7 +4,7 @@ ghost use Rattle.av1_lrf.specs.Rows.{sample};
 ghost use Rattle.av1_lrf.specs.Wiener.{IsDepth};
 ghost use Rattle.av1_lrf.specs.Taps.{IsWithinBound, AreLimits, rounding_of};
 ghost use Rattle.av1_lrf.specs.Guided.{strength};
-ghost use Rattle.av1_lrf.specs.Guides.{IsGuide, IsPass, IsMix, IsMixOf, IsGuidedPlan};
+ghost use Rattle.av1_lrf.specs.Guides.{IsGuide, IsGuidePass, IsMix, IsMixOf, IsGuidedPlan};
 
 use crate::guide::Guide;
 use crate::guided::Plan;
@@ -22,7 +22,7 @@ fn strength_of(set: u8, two: bool) -> u32
 fn two_of(set: u8, bd: usize) -> Guide
     requires set { set < 16 }
     requires depth { IsDepth bd }
-    ensures pass { IsPass bd set 2 result }
+    ensures pass { IsGuidePass bd set 2 result }
     ensures small { IsGuide result }
     ensures side { result.side ≡ 5 }
 {
@@ -40,7 +40,7 @@ fn two_of(set: u8, bd: usize) -> Guide
 fn one_of(set: u8, bd: usize) -> Guide
     requires set { set < 16 }
     requires depth { IsDepth bd }
-    ensures pass { IsPass bd set 1 result }
+    ensures pass { IsGuidePass bd set 1 result }
     ensures small { IsGuide result }
     ensures side { result.side ≡ 3 }
 {
@@ -130,8 +130,8 @@ fn mix_of(set: u8, xqd: [i8; 2], bd: usize) -> Mix
 pub fn plan_of(set: u8, xqd: [i8; 2], bd: usize) -> Plan
     requires set { set < 16 }
     requires depth { IsDepth bd }
-    ensures two { IsPass bd set 2 result.two }
-    ensures one { IsPass bd set 1 result.one }
+    ensures two { IsGuidePass bd set 2 result.two }
+    ensures one { IsGuidePass bd set 1 result.one }
     ensures mix { IsMixOf bd set xqd result.mix }
     ensures small { IsGuidedPlan result }
     ensures high { result.mix.limits.high ≡ pos (2 ^ bd - 1) }

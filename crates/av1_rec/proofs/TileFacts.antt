@@ -19,7 +19,7 @@ use Rattle.av1_rec.specs.declared.text.fault.Fault.{Fault}
 use Rattle.av1_rec.specs.declared.text.fault.Fault.TheVariants.{NoTiling}
 use Rattle.av1_rec.specs.declared.text.header.Header.{Header}
 use Rattle.av1_rec.specs.Text.{tiling}
-use Rattle.av1_rec.specs.Tiles.{IsTile, AreTiles}
+use Rattle.av1_rec.specs.Tiles.{IsTileNumber, AreTiles}
 
 -- a tiling that was found is the grid
 pub grid_found : (h : Header) (t : TilingInfo) → tiling h ≡ Ok t
@@ -32,7 +32,7 @@ grid_found h t e = some_of (grid 6 h.format.width h.format.height h.target.num h
     some_of None e = absurd cc
 
 -- each tile of a grid in superblocks of 64
-tile_of : (t : TilingInfo) (n : ℕ) → IsTiling t → t.sb_size_log2 ≡ 6 → n < t.cols * t.rows → IsTile t n
+tile_of : (t : TilingInfo) (n : ℕ) → IsTiling t → t.sb_size_log2 ≡ 6 → n < t.cols * t.rows → IsTileNumber t n
 tile_of t n h side inside =
     let lies = tile_luma-inside t n h inside in
     let wide = lies.wide in

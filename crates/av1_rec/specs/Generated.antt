@@ -98,13 +98,13 @@ small_block cdef_index = record default_block {
 }
 
 -- the CDEF index at a place of the block table goes by the superblock's column and row
-abbrev pub block_at : (column row : ℕ) → Block
-block_at column row = small_block ((column / 16 + row / 16) % 8)
+abbrev pub generated_block : (column row : ℕ) → Block
+generated_block column row = small_block ((column / 16 + row / 16) % 8)
 
 -- the blocks of a rectangle
-unfoldable pub coded_blocks : TileRect → List Block
-coded_blocks rect =
-    first_values (λ k. block_at (rect.x + k % rect.width) (rect.y + k / rect.width)) (rect.width * rect.height)
+unfoldable pub generated_blocks : TileRect → List Block
+generated_blocks rect =
+    first_values (λ k. generated_block (rect.x + k % rect.width) (rect.y + k / rect.width)) (rect.width * rect.height)
 
 -- the coefficients and the weights in the middle of their ranges
 abbrev pub middle_taps : List ℤ
@@ -114,24 +114,24 @@ abbrev pub middle_weights : List ℤ
 middle_weights = neg_ℤ (pos 32) ∷ pos 31 ∷ []
 
 -- the unit at a place of a plane's units
-abbrev pub unit_at : (column row : ℕ) → RestorationUnit
-unit_at column row =
+abbrev pub generated_unit : (column row : ℕ) → RestorationUnit
+generated_unit column row =
     if (column + row) % 3 == 0 then no_unit
     else (if (column + row) % 3 == 1 then record { filter = filters.Wiener (middle_taps ∷ middle_taps ∷ []) }
     else record { filter = filters.Sgrproj (column % 16) middle_weights })
 
 -- the units of tile n in a plane whose units are laid out so
-unfoldable pub coded_units : TilingInfo → RestorationPlaneConfig → ℕ → List RestorationUnit
-coded_units t cfg n =
+unfoldable pub generated_units : TilingInfo → RestorationPlaneConfig → ℕ → List RestorationUnit
+generated_units t cfg n =
     let rect = tile_units t cfg.sb_h_shift cfg.sb_v_shift cfg.cols cfg.rows n in
-    first_values (λ k. unit_at (rect.x + k % rect.width) (rect.y + k / rect.width)) (rect.width * rect.height)
+    first_values (λ k. generated_unit (rect.x + k % rect.width) (rect.y + k / rect.width)) (rect.width * rect.height)
 
 -- those of all planes
 abbrev pub coded_unit_lists : TilingInfo → Three RestorationPlaneConfig → ℕ → Three (List RestorationUnit)
 coded_unit_lists t layouts n = record {
-  y = coded_units t layouts.y n;
-  u = coded_units t layouts.u n;
-  v = coded_units t layouts.v n;
+  y = generated_units t layouts.y n;
+  u = generated_units t layouts.u n;
+  v = generated_units t layouts.v n;
 }
 
 -- how many bytes tile n has, and which
@@ -144,7 +144,7 @@ coded_bytes n = first_values (λ i. (n + i) % 256) (byte_count n)
 -- the result of tile n
 unfoldable pub coded_tile : Header → TilingInfo → Three (List (List ℤ)) → ℕ → Recorded
 coded_tile h t s n =
-    Coded (coded_bytes n) (coded_planes h.format.sampling (tile_luma t n) s) (coded_blocks (tile_blocks t n))
+    Coded (coded_bytes n) (coded_planes h.format.sampling (tile_luma t n) s) (generated_blocks (tile_blocks t n))
     (coded_unit_lists t (unit_layouts (frame_parameters h t)) n)
 
 -- the frame that a header and a number make, as a text would say it

@@ -5,7 +5,7 @@ use Rattle.av1_tiling.specs.TileRects.{tile_superblock}
 use Rattle.av1_rec.specs.declared.text.extent.TileShape.{TileShape}
 
 -- tile n begins inside the frame, whose sides are whole blocks of 8 samples and at most 65536
-pub record IsTile (t : TilingInfo) (n : ℕ) : Type 0 where
+pub record IsTileNumber (t : TilingInfo) (n : ℕ) : Type 0 where
   pub columns : 0 < t.cols
   pub side : t.sb_size_log2 ≡ 6
   pub x : (tile_superblock t n).0 * 64 < t.frame_width
@@ -20,7 +20,7 @@ pub record IsTile (t : TilingInfo) (n : ℕ) : Type 0 where
 -- so is each tile of the grid, of which there are at most 4096
 pub record AreTiles (t : TilingInfo) : Type 0 where
   pub few : t.cols * t.rows ≤ 4096
-  pub each : (n : ℕ) → n < t.cols * t.rows → IsTile t n
+  pub each : (n : ℕ) → n < t.cols * t.rows → IsTileNumber t n
 
 -- a tile has blocks, at most 16384 each way
 pub record IsTileShape (s : TileShape) : Type 0 where

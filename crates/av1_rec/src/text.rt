@@ -13,7 +13,7 @@ ghost use Rattle.av1_rec.specs.Read.{IsReadText};
 ghost use Rattle.av1_rec.specs.Recorded.{recorded};
 ghost use Rattle.av1_rec.specs.Tile.{digit_limit};
 ghost use Rattle.av1_rec.specs.Parameters.{frame_parameters};
-ghost use Rattle.av1_rec.specs.Tiles.{IsTile, AreTiles, IsTileShape};
+ghost use Rattle.av1_rec.specs.Tiles.{IsTileNumber, AreTiles, IsTileShape};
 ghost use Rattle.av1_rec.specs.UnitTables.{unit_extent, unit_extents, IsUnitLayout};
 ghost use Rattle.av1_tiling.specs.Frames.{FitsDepth};
 ghost use Rattle.av1_tiling.specs.UnitSizes.{unit_layouts};
@@ -186,7 +186,7 @@ fn chroma_of(sampling: ChromaSampling, luma: Extent) -> Extent
 
 // The shape of tile `n`.
 fn tile_shape(format: &FrameFormat, tiling: &TilingInfo, n: usize) -> TileShape
-    requires { IsTile tiling.now n }
+    requires { IsTileNumber tiling.now n }
     ensures value { result ≡ tile_shape format.now tiling.now n }
     ensures blocks { IsTileShape result }
 {
@@ -230,7 +230,7 @@ pub fn unit_layouts<T: Pixel + Drop>(
 
 // How many units of a plane tile `n` has.
 fn unit_extent(tiling: &TilingInfo, cfg: &RestorationPlaneConfig, n: usize) -> Extent
-    requires tile { IsTile tiling.now n }
+    requires tile { IsTileNumber tiling.now n }
     requires layout { IsUnitLayout cfg.now }
     ensures { result ≡ unit_extent tiling.now cfg.now n }
 {
@@ -247,7 +247,7 @@ fn tile_unit_extents(
     layouts: &Three<RestorationPlaneConfig>,
     n: usize,
 ) -> Three<Extent>
-    requires tile { IsTile tiling.now n }
+    requires tile { IsTileNumber tiling.now n }
     requires y { IsUnitLayout layouts.now.y }
     requires u { IsUnitLayout layouts.now.u }
     requires v { IsUnitLayout layouts.now.v }
@@ -270,7 +270,7 @@ fn tile_at<'a, T: Pixel + Drop>(
     n: usize,
     text: &'a [u8],
 ) -> Result<(RecordedTile<T>, &'a [u8]), TextError>
-    requires tile { IsTile tiling.now n }
+    requires tile { IsTileNumber tiling.now n }
     requires few { n ≤ 4096 }
     requires layouts { layouts.now ≡ unit_layouts (frame_parameters header.now tiling.now) }
     requires limit { digit_limit (is_wide header.now.format) ≤ T.limit }

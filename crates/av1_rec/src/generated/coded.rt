@@ -4,14 +4,14 @@ ghost use Rattle.av1_plane.specs.Sampling.{decimation};
 ghost use Rattle.av1_tiling.specs.Frames.{FitsDepth};
 ghost use Rattle.av1_tiling.specs.UnitSizes.{unit_layouts};
 ghost use Rattle.av1_rec.specs.BlockTable.{first_values};
-ghost use Rattle.av1_rec.specs.Generated.{coded_row, coded_rows, chroma_rect, coded_planes, small_block, block_at, coded_blocks, middle_taps, middle_weights, unit_at, coded_units, coded_unit_lists, byte_count, coded_bytes, coded_tile};
+ghost use Rattle.av1_rec.specs.Generated.{coded_row, coded_rows, chroma_rect, coded_planes, small_block, generated_block, generated_blocks, middle_taps, middle_weights, generated_unit, generated_units, coded_unit_lists, byte_count, coded_bytes, coded_tile};
 ghost use Rattle.av1_rec.specs.Header.{IsHeader};
 ghost use Rattle.av1_rec.specs.Lines.{numbers_of, said_planes};
 ghost use Rattle.av1_rec.specs.Parameters.{frame_parameters};
 ghost use Rattle.av1_rec.specs.Picture.{picture_sample};
 ghost use Rattle.av1_rec.specs.Recorded.{recorded, unit_lists};
 ghost use Rattle.av1_rec.specs.Text.{HasTiling};
-ghost use Rattle.av1_rec.specs.Tiles.{IsTile, AreTiles};
+ghost use Rattle.av1_rec.specs.Tiles.{IsTileNumber, AreTiles};
 ghost use Rattle.av1_rec.specs.UnitTables.{IsUnitLayout};
 
 use crate::coder::recorded_tile::RecordedTile;
@@ -124,19 +124,19 @@ fn small_block(cdef_index: u8) -> Block
 fn block_at(column: usize, row: usize) -> Block
     requires column { column ≤ 32768 }
     requires row { row ≤ 32768 }
-    ensures { result ≡ block_at column row }
+    ensures { result ≡ generated_block column row }
 {
     small_block(((column / 16 + row / 16) % 8) as u8)
 }
 
 // The blocks of a rectangle.
-#[tactic(auto, unfolding(crate::specs::Generated::coded_blocks))]
+#[tactic(auto, unfolding(crate::specs::Generated::generated_blocks))]
 fn coded_blocks(alloc: Global, rect: TileRect) -> Result<Vec<Block>, AllocError>
     requires x { rect.x ≤ 16384 }
     requires y { rect.y ≤ 16384 }
     requires width { (1 ≤ rect.width) × (rect.width ≤ 16384) }
     requires height { rect.height ≤ 16384 }
-    ensures { IfOk result (λ made. made.items ≡ coded_blocks rect) }
+    ensures { IfOk result (λ made. made.items ≡ generated_blocks rect) }
 {
     let count = rect.width * rect.height;
     let mut made = Vec::with_capacity(alloc, count)?;
@@ -150,7 +150,7 @@ fn coded_blocks(alloc: Global, rect: TileRect) -> Result<Vec<Block>, AllocError>
 fn unit_at(column: usize, row: usize) -> RestorationUnit
     requires column { column ≤ 32768 }
     requires row { row ≤ 32768 }
-    ensures { result ≡ unit_at column row }
+    ensures { result ≡ generated_unit column row }
 {
     let filter = match (column + row) % 3 {
         0 => RestorationFilter::None,
@@ -166,16 +166,16 @@ fn unit_at(column: usize, row: usize) -> RestorationUnit
 }
 
 // The units of tile `n` in a plane whose units are laid out so.
-#[tactic(auto, unfolding(crate::specs::Generated::coded_units))]
+#[tactic(auto, unfolding(crate::specs::Generated::generated_units))]
 fn coded_units(
     alloc: Global,
     tiling: &TilingInfo,
     cfg: &RestorationPlaneConfig,
     n: usize,
 ) -> Result<Vec<RestorationUnit>, AllocError>
-    requires tile { IsTile tiling.now n }
+    requires tile { IsTileNumber tiling.now n }
     requires layout { IsUnitLayout cfg.now }
-    ensures { IfOk result (λ made. made.items ≡ coded_units tiling.now cfg.now n) }
+    ensures { IfOk result (λ made. made.items ≡ generated_units tiling.now cfg.now n) }
 {
     let rect = tile_units(tiling, cfg, n);
     let count = rect.width * rect.height;
@@ -219,7 +219,7 @@ fn coded_unit_lists(
     layouts: &Three<RestorationPlaneConfig>,
     n: usize,
 ) -> Result<Three<Vec<RestorationUnit>>, AllocError>
-    requires tile { IsTile tiling.now n }
+    requires tile { IsTileNumber tiling.now n }
     requires y { IsUnitLayout layouts.now.y }
     requires u { IsUnitLayout layouts.now.u }
     requires v { IsUnitLayout layouts.now.v }
@@ -261,7 +261,7 @@ fn coded_tile(
     source: &Three<Vec<Vec<u8>>>,
     n: usize,
 ) -> Result<RecordedTile<u8>, AllocError>
-    requires tile { IsTile tiling.now n }
+    requires tile { IsTileNumber tiling.now n }
     requires few { n ≤ 4096 }
     requires layouts { layouts.now ≡ unit_layouts (frame_parameters header.now tiling.now) }
     ensures { IfOk result (λ made. recorded pos made

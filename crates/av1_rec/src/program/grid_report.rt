@@ -1,6 +1,6 @@
 ghost use Rattle.std.specs.Prelude.{◌≡◌, ◌≤◌, ◌<◌, ◌++◌, ◌*◌, OnOk, IfOk};
 ghost use Rattle.av1_rec.specs.GridText.{rect_text, tile_text, tile_texts, grid_line, grid_text};
-ghost use Rattle.av1_rec.specs.Tiles.{IsTile, AreTiles};
+ghost use Rattle.av1_rec.specs.Tiles.{IsTileNumber, AreTiles};
 
 use crate::program::report::{put, put_spaced};
 use crate::text::tile_rects::{tile_blocks, tile_samples};
@@ -22,7 +22,7 @@ fn put_rect(out: &mut Vec<u8>, rect: TileRect) -> Result<(), AllocError>
 // The line of tile `n`.
 #[tactic(auto, unfolding(crate::specs::GridText::tile_text))]
 fn put_tile(out: &mut Vec<u8>, tiling: &TilingInfo, n: usize) -> Result<(), AllocError>
-    requires { IsTile tiling.now n }
+    requires { IsTileNumber tiling.now n }
     ensures { OnOk result (out.new.items ≡ out.old.items ++ tile_text tiling.now n) }
 {
     put(out, b"tile")?;

@@ -2,7 +2,7 @@
 ghost use Rattle.std.specs.Prelude.{◌≡◌, ◌<◌, ◌≤◌, ◌+◌, ◌*◌, ◌/◌, ◌-◌, ◌^◌, min};
 ghost use Rattle.std.specs.Int.{div_ceil};
 ghost use Rattle.av1_tiling.specs.TileRects.{tile_superblock, tile_luma, tile_samples, tile_blocks, tile_units};
-ghost use Rattle.av1_rec.specs.Tiles.{IsTile};
+ghost use Rattle.av1_rec.specs.Tiles.{IsTileNumber};
 ghost use Rattle.av1_rec.specs.UnitTables.{IsUnitLayout};
 
 use av1_plane::TileRect;
@@ -10,7 +10,7 @@ use av1_tiling::{RestorationPlaneConfig, TilingInfo};
 
 // The tile's first superblock: its column and its row.
 fn tile_superblock(tiling: &TilingInfo, n: usize) -> (usize, usize)
-    requires { IsTile tiling.now n }
+    requires { IsTileNumber tiling.now n }
     ensures { result ≡ tile_superblock tiling.now n }
 {
     (
@@ -29,7 +29,7 @@ fn cut_side(count: usize, unit: usize, left: usize) -> usize
 /// The tile's luma samples, cut to the frame.
 #[tactic(auto, using(crate::proofs::TileFacts::luma_rect))]
 pub fn tile_luma(tiling: &TilingInfo, n: usize) -> TileRect
-    requires { IsTile tiling.now n }
+    requires { IsTileNumber tiling.now n }
     ensures rect { result ≡ tile_luma tiling.now n }
     ensures wide { (1 ≤ result.width) × (result.x + result.width ≤ 65536) }
     ensures high { (1 ≤ result.height) × (result.y + result.height ≤ 65536) }
@@ -48,7 +48,7 @@ pub fn tile_luma(tiling: &TilingInfo, n: usize) -> TileRect
 /// The luma samples of the tile's view: the sides are rounded up to whole superblocks.
 #[tactic(auto, using(crate::proofs::TileFacts::samples_rect))]
 pub fn tile_samples(tiling: &TilingInfo, n: usize) -> TileRect
-    requires { IsTile tiling.now n }
+    requires { IsTileNumber tiling.now n }
     ensures { result ≡ tile_samples tiling.now n }
 {
     let luma = tile_luma(tiling, n);
@@ -63,7 +63,7 @@ pub fn tile_samples(tiling: &TilingInfo, n: usize) -> TileRect
 /// The tile's blocks: those of its superblocks, cut to the frame's table.
 #[tactic(auto, using(crate::proofs::TileFacts::blocks_rect))]
 pub fn tile_blocks(tiling: &TilingInfo, n: usize) -> TileRect
-    requires { IsTile tiling.now n }
+    requires { IsTileNumber tiling.now n }
     ensures rect { result ≡ tile_blocks tiling.now n }
     ensures wide { (1 ≤ result.width) × (result.x + result.width ≤ 16384) }
     ensures high { (1 ≤ result.height) × (result.y + result.height ≤ 16384) }
@@ -98,7 +98,7 @@ fn units_along(superblock: usize, superblocks: usize, shift: usize, units: usize
 /// The tile's units of a plane.
 #[tactic(auto, using(crate::proofs::TileFacts::units_rect))]
 pub fn tile_units(tiling: &TilingInfo, cfg: &RestorationPlaneConfig, n: usize) -> TileRect
-    requires tile { IsTile tiling.now n }
+    requires tile { IsTileNumber tiling.now n }
     requires layout { IsUnitLayout cfg.now }
     ensures rect { result ≡ tile_units tiling.now cfg.now.sb_h_shift cfg.now.sb_v_shift
         cfg.now.cols cfg.now.rows n }

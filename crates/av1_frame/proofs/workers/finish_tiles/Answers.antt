@@ -2,7 +2,7 @@ use Rattle.std.proofs.Common.{◌≡◌, ℕ, ◌+◌, [], ◌∷◌, ◌++◌, 
 use Rattle.std.specs.List.{AllZip}
 use Rattle.av1_tiling.specs.Frames.{views}
 use Rattle.av1_tiling.specs.Views.{View}
-use Rattle.av1_frame.specs.Worked.{IsCodedFrom, IsTile}
+use Rattle.av1_frame.specs.Worked.{IsCodedFrom, IsTileResult}
 use Rattle.av1_frame.proofs.Worked.{entry_next, tile_below, tiles_more}
 use Rattle.av1_frame.proofs.workers.finish_tiles.Goals as goal
 
@@ -30,5 +30,5 @@ loop-entry-preserved g c =
       long = rw c.in_ok-push.ensures.items (omega (arith, length-append c.loop-entry.tiles.items, length-append c.loop-entry.yielded, v.long));
       made = subst (λ (n : ℕ). AllZip (IsCodedFrom (g.C.TileCoder.meaning c.args.coder.now)) (take n all) c.push.new.self.items) (sym one)
           (tiles_more (g.C.TileCoder.meaning c.args.coder.now) all (length c.loop-entry.yielded) c.in_ok-tile.tile c.loop-entry.tiles.items c.push.new.self.items v.made
-          (subst (λ (n : ℕ). IsTile (g.C.TileCoder.meaning c.args.coder.now) all n c.in_ok-tile.tile) here c.in_ok-tile.ensures) c.in_ok-push.ensures.items);
+          (subst (λ (n : ℕ). IsTileResult (g.C.TileCoder.meaning c.args.coder.now) all n c.in_ok-tile.tile) here c.in_ok-tile.ensures) c.in_ok-push.ensures.items);
     }

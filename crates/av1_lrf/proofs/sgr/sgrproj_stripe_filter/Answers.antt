@@ -6,7 +6,7 @@ use Rattle.av1_plane.specs.Region.{samples_under, area}
 use Rattle.av1_lrf.specs.Rows.{sample}
 use Rattle.av1_tiling.specs.Frames.{Parameters}
 use Rattle.av1_lrf.specs.Guided.{guided}
-use Rattle.av1_lrf.specs.Guides.{IsPass, IsMixOf}
+use Rattle.av1_lrf.specs.Guides.{IsGuidePass, IsMixOf}
 use Rattle.av1_lrf.specs.Wiener.{IsDepth}
 use Rattle.av1_lrf.proofs.DepthFacts.{is_depth}
 use Rattle.av1_lrf.proofs.SgrFacts.{plan_is, stripe_is, whole_run}
@@ -23,8 +23,8 @@ returns-clause-value g c = λ f h.
     let plan = c.plan_of-plan.result in
     let made_by = c.plan_of-plan.ensures in
     let depth : c.fi.inside.sequence.bit_depth ≡ bd = ap (λ (p : Parameters). p.sequence.bit_depth) c.fi.view_is in
-    let two = subst (λ (n : ℕ). IsPass n c.args.set 2 plan.two) depth made_by.two in
-    let one = subst (λ (n : ℕ). IsPass n c.args.set 1 plan.one) depth made_by.one in
+    let two = subst (λ (n : ℕ). IsGuidePass n c.args.set 2 plan.two) depth made_by.two in
+    let one = subst (λ (n : ℕ). IsGuidePass n c.args.set 1 plan.one) depth made_by.one in
     let mix = subst (λ (n : ℕ). IsMixOf n c.args.set c.args.xqd plan.mix) depth made_by.mix in
     let ew : (area c.args.out.now).width ≡ c.rect.result.now.width = ap (λ (r : Rect). r.width) (sym c.rect.ensures) in
     let eh : (area c.args.out.now).height ≡ c.rect-2.result.now.height = ap (λ (r : Rect). r.height) (sym c.rect-2.ensures) in
