@@ -13,13 +13,13 @@ rect_fits row column width height step rows across down =
     let all : (row + height) * step ≤ rows * step = mul-le (row + height) step rows step down (omega arith) in
     omega arith
 
--- the samples from a rectangle's first one on hold it
+-- the samples from a rectangle's first one on hold the rectangle
 pub rest_fits : {X : Type 0} (row column width height step rows : ℕ) (xs : List X) → column + width ≤ step → row + height ≤ rows → length xs ≡ step * rows → height * step + width ≤ length (drop column (drop (row * step) xs)) + step
 rest_fits row column width height step rows xs across down all =
     let fits : row * step + column + height * step + width ≤ step * rows + step = rect_fits row column width height step rows across down in
     simp (length-drop) (omega arith)
 
--- so many places from a stored one on
+-- n places from a stored one on are stored
 pub stored_run : (origin : ℕ) (place : ℤ) (n limit : ℕ) → pos 0 ≤ℤ (pos origin +ℤ place) → (pos origin +ℤ place +ℤ pos n) ≤ℤ pos limit → stored_at origin place + n ≤ limit
 stored_run origin place n limit low high = omega (arith, ints)
 
@@ -27,7 +27,7 @@ stored_run origin place n limit low high = omega (arith, ints)
 pub rect_columns : (cfg : PlaneConfig) (rect : Rect) → IsInPlane cfg rect → stored_at cfg.xorigin rect.x + rect.width ≤ cfg.stride
 rect_columns cfg rect within = stored_run cfg.xorigin rect.x rect.width cfg.stride within.left within.right
 
--- its rows end inside the stored rows
+-- the rows of a rectangle in the stored rows end inside the list
 pub rect_rows : (cfg : PlaneConfig) (rect : Rect) → IsInPlane cfg rect → stored_at cfg.yorigin rect.y + rect.height ≤ cfg.alloc_height
 rect_rows cfg rect within = stored_run cfg.yorigin rect.y rect.height cfg.alloc_height within.top within.bottom
 
@@ -49,7 +49,7 @@ row_end_bound row step rows n h e =
     let all : (row + 1) * step ≤ rows * step = mul-le (row + 1) step rows step (omega arith) (omega arith) in
     omega arith
 
--- the samples from the first one of a part of a region on hold it
+-- the samples from the first one of a part of a region on hold the part
 pub part_fits : {X : Type 0} (row column width height step rows : ℕ) (xs : List X) → column + width ≤ step → row + height ≤ rows → 0 < rows → rows * step + (column + width) ≤ length xs + step → height * step + width ≤ length (drop column (drop (row * step) xs)) + step
 part_fits row column width height step rows xs across down some all =
     let products : (row + height) * step ≤ rows * step = mul-le (row + height) step rows step down (omega arith) in
@@ -67,7 +67,7 @@ part_row start row height step rows columns n down some all =
     let products : (row + 1) * step ≤ rows * step = mul-le (row + 1) step rows step (omega arith) (omega arith) in
     omega arith
 
--- so many rows of a region lie in the plane, the last one up to its last sample
+-- consecutive rows of a region lie in the plane, the last one up to its last sample
 pub band_fits : (start y more height step width n : ℕ) → y + more + 1 ≤ height → start + height * step + width ≤ n + step → start + y * step + (more * step + width) ≤ n
 band_fits start y more height step width n within all =
     let products : (y + more + 1) * step ≤ height * step = mul-le (y + more + 1) step height step within (omega arith) in

@@ -8,12 +8,12 @@ use Rattle.av1_plane.specs.Region.{spot, samples_under, numbers_under, first_pla
 use Rattle.av1_plane.specs.Runs.{placed}
 use Rattle.av1_plane.proofs.Views.{row_inside}
 
--- no number placed
+-- placing no numbers leaves the list as it is
 pub placed_none : (xs : List ℤ) (at : ℕ) (ys : List ℤ) (first : ℕ) → placed xs at ys first 0 ≡ xs
 unfolding placed
 placed_none xs at ys first = refl
 
--- one number more placed
+-- one number more of a run is placed
 pub placed_more : (xs : List ℤ) (at : ℕ) (ys : List ℤ) (first n : ℕ) → placed xs at ys first (n + 1) ≡ set (placed xs at ys first n) (at + n) (get_or ys (first + n) (pos 0))
 unfolding placed
 placed_more xs at ys first n = rw add-one refl
@@ -28,7 +28,7 @@ length-placed xs at ys first (suc n) = length-set (placed xs at ys first n) (at 
 abbrev pub spliced : ℕ → List ℤ → List ℤ → List ℤ
 spliced k rs xs = take k xs ++ (rs ++ drop (length rs) (drop k xs))
 
--- one number of the run changed
+-- changing one number of a spliced run changes it in the list
 pub spliced_set : (k i : ℕ) (rs xs : List ℤ) (v : ℤ) → i < length rs → k ≤ length xs → spliced k (set rs i v) xs ≡ set (spliced k rs xs) (k + i) v
 spliced_set k i rs xs v l h =
     let front : length (take k xs) ≡ k = length-take-le k xs h in
@@ -39,7 +39,7 @@ spliced_set k i rs xs v l h =
     ∙ ap (λ j. take k xs ++ set (rs ++ drop (length rs) (drop k xs)) j v) (sym skipped)
     ∙ sym (set-append_right (take k xs) (rs ++ drop (length rs) (drop k xs)) k (k + i) v front (omega arith))
 
--- the run that stands there already
+-- splicing in the run that stands there changes nothing
 pub spliced_same : (k w : ℕ) (xs : List ℤ) → k + w ≤ length xs → spliced k (take w (drop k xs)) xs ≡ xs
 spliced_same k w xs h =
     let long : length (drop k xs) ≡ length xs - k = length-drop k xs in
@@ -108,7 +108,7 @@ whole_run f r made e =
     let size : length (made ++ drop (length made) items) ≡ length items = ap length same ∙ e in
     ap (map f) (with_items_is r.plane.now.samples _ (size ∙ sym r.plane.now.samples.ok.0) ∙ same)
 
--- a column further right in the row
+-- the place of a column j further right is j greater
 pub run_place : (o s x y j : ℕ) → spot o s (x + j) y ≡ spot o s x y + j
 run_place o s x y j = omega arith
 

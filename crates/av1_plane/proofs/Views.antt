@@ -7,7 +7,7 @@ use Rattle.av1_plane.specs.declared.region_mut.PlaneRegionMut.{PlaneRegionMut}
 use Rattle.av1_plane.specs.Reading.{samples_seen, step_seen, area_seen, row_seen, numbers_seen}
 use Rattle.av1_plane.specs.Region.{spot, samples_under, numbers_under, first_place, row_step, area, IsStored}
 
--- entry x of the n entries from place k on
+-- an entry of a row is the list's entry at the row's place and the entry's number
 pub get_or-row : {X : Type 0} → (n k : ℕ) (xs : List X) (x : ℕ) (d : X) → x < n → get_or (take n (drop k xs)) x d ≡ get_or xs (k + x) d
 get_or-row n k xs x d h = get_or-take n (drop k xs) x d h ∙ get_or-drop k xs x d
 

@@ -15,7 +15,7 @@ use Rattle.av1_plane.specs.Runs.{plane_with_run}
 use Rattle.av1_plane.specs.contracts.plane.Plane as plane
 use Rattle.av1_plane.specs.contracts.region_mut.PlaneRegionMut as region
 
--- the region with that plane
+-- the region r with the plane p under it
 abbrev pub with_plane_under : {X : Type 0} → PlaneRegionMut X → Plane X → PlaneRegionMut X
 with_plane_under r p = record r { plane = record r.plane { now = p } }
 
@@ -49,7 +49,7 @@ pub record IsPlaceOf {X : Type 0} (r : PlaneRegionMut X) (part : Area) (start : 
   pub wide : rect.width ≤ row_step r
   pub inside : start + rect.height * row_step r + rect.width ≤ length (samples_under r) + row_step r
 
--- b is that area of a; empty where a is
+-- b is the area `part` of a; b is empty where a is
 pub record IsAreaUnder {X : Type 0} (a b : PlaneRegionMut X) (part : Area) : Type 0 where
   pub inside : 0 < (area a).width → 0 < (area a).height
       → IsPartUnder a b (part_of a.plane_cfg (area a) part)
@@ -58,12 +58,12 @@ pub record IsAreaUnder {X : Type 0} (a b : PlaneRegionMut X) (part : Area) : Typ
   pub no_height : (area a).height ≡ 0 → area b ≡ no_area
   pub stored : IsStored b
 
--- the plane ends with what was left in the run, from that place on
+-- the plane ends with what was left in the lent run, from place `i` on
 abbrev pub LendsPlaneRun : (T : RattleType) → MutBor (Plane T.Denot) → MutBor (List T.Denot) → ℕ → Fml
 LendsPlaneRun T self run place =
     Lends (plane.the_row T) (Array T 0) self run (plane_with_run self.now place)
 
--- the region ends with what was left in the run, from that place of its plane on
+-- the region ends with what was left in the lent run, from place `i` of its plane on
 abbrev pub LendsRun : (T : RattleType) → MutBor (PlaneRegionMut T.Denot) → MutBor (List T.Denot) → ℕ → Fml
 LendsRun T self run place =
     Lends (region.the_row (record { mir = named 1; lft = [] }) T) (Array T 0) self run

@@ -4,7 +4,7 @@ use Rattle.av1_plane.specs.declared.region.Rect.{Rect}
 use Rattle.av1_plane.specs.Runs.{plane_with_run}
 use Rattle.av1_plane.specs.declared.region_mut.PlaneRegionMut.{PlaneRegionMut}
 
--- the place of column x of row y
+-- the place of column x of row y, where the first row begins at `start` and rows `step` apart
 abbrev pub spot : ℕ → ℕ → ℕ → ℕ → ℕ
 spot start step x y = start + y * step + x
 
@@ -12,28 +12,28 @@ spot start step x y = start + y * step + x
 abbrev pub samples_under : {X : Type 0} → PlaneRegionMut X → List X
 samples_under r = r.plane.now.samples.items
 
--- their numbers
+-- the numbers of all samples of the plane under a region
 abbrev pub numbers_under : {X : Type 0} → (X → ℤ) → PlaneRegionMut X → List ℤ
 numbers_under number r = map number (samples_under r)
 
--- where the first row begins in them
+-- where a region's first row begins in the samples of its plane
 abbrev pub first_place : {X : Type 0} → PlaneRegionMut X → ℕ
 first_place r = r.start
 
--- how far apart the rows begin
+-- how far apart the rows of a region for writing begin
 abbrev pub row_step : {X : Type 0} → PlaneRegionMut X → ℕ
 row_step r = r.plane.now.cfg.stride
 
--- the rectangle, relative to the plane's origin
+-- the rectangle of a region for writing, relative to the plane's origin
 abbrev pub area : {X : Type 0} → PlaneRegionMut X → Rect
 area r = r.rect
 
--- the rectangle lies in the plane
+-- a region's rectangle lies in the stored rows of its plane
 pub record IsStored {X : Type 0} (r : PlaneRegionMut X) : Type 0 where
   pub wide : (area r).width ≤ row_step r
   pub inside : first_place r + (area r).height * row_step r + (area r).width ≤ length (samples_under r) + row_step r
 
--- b is the same rectangle of the same plane as a
+-- b is a's rectangle of a's plane, whose samples may have changed
 pub record IsSamePart {X : Type 0} (a b : PlaneRegionMut X) : Type 0 where
   pub name : b.plane.ghost_name ≡ a.plane.ghost_name
   pub layout : b.plane.now.cfg ≡ a.plane.now.cfg
@@ -45,7 +45,7 @@ pub record IsSamePart {X : Type 0} (a b : PlaneRegionMut X) : Type 0 where
 abbrev pub row_place : {X : Type 0} → PlaneRegionMut X → ℕ → ℕ
 row_place r y = spot (first_place r) (row_step r) 0 y
 
--- row y
+-- row y of a region for writing
 abbrev pub row_under : {X : Type 0} → PlaneRegionMut X → ℕ → List X
 row_under r y = take (area r).width (drop (row_place r y) (samples_under r))
 
@@ -53,7 +53,7 @@ row_under r y = take (area r).width (drop (row_place r y) (samples_under r))
 abbrev pub band_length : ℕ → ℕ → ℕ → ℕ
 band_length step width rows = (rows - 1) * step + width
 
--- so many rows from row y on as one run
+-- `rows` rows from row y on, as one run of samples
 abbrev pub band_under : {X : Type 0} → PlaneRegionMut X → ℕ → ℕ → List X
 band_under r y rows =
     take (band_length (row_step r) (area r).width rows) (drop (row_place r y) (samples_under r))

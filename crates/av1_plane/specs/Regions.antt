@@ -15,7 +15,7 @@ use Rattle.av1_plane.specs.Reading.{samples_seen, step_seen, area_seen}
 abbrev pub plane_area : PlaneConfig → Area → Rect
 plane_area cfg a = area_rect a cfg.xdec cfg.ydec (from_origin cfg).width (from_origin cfg).height
 
--- an area that the plane stores; any, where the plane has a side of 0
+-- an area that the plane stores; every area, where the plane has a side of 0
 pub record HoldsPlaneArea {X : Type 0} (p : Plane X) (a : Area) : Type 0 where
   pub xdec : p.cfg.xdec ≤ 1
   pub ydec : p.cfg.ydec ≤ 1
@@ -29,7 +29,7 @@ pub record ShowsPlane {X : Type 0} (p : Plane X) (r : PlaneRegion X) : Type 0 wh
   pub cfg : r.plane_cfg.now ≡ p.cfg
   pub area : area_seen r ≡ from_origin p.cfg
 
--- the region of a rectangle of the plane with that layout and those samples; empty where the plane
+-- the region of a rectangle of a plane with this layout and these samples; empty where the plane
 -- has a side of 0
 pub record ShowsRect {X : Type 0} (layout : PlaneConfig) (xs : List X) (rect : Rect) (r : PlaneRegion X) : Type 0 where
   pub samples : 0 < layout.width → 0 < layout.height
@@ -40,11 +40,11 @@ pub record ShowsRect {X : Type 0} (layout : PlaneConfig) (xs : List X) (rect : R
   pub no_width : layout.width ≡ 0 → area_seen r ≡ no_area
   pub no_height : layout.height ≡ 0 → area_seen r ≡ no_area
 
--- a rectangle that a plane of that layout holds; any, where the plane has a side of 0
+-- a rectangle that a plane of this layout stores; every one, where the plane has a side of 0
 abbrev pub StoresRect : PlaneConfig → Rect → Type 0
 StoresRect layout rect = 0 < layout.width → 0 < layout.height → IsInPlane layout rect
 
--- the region of an area
+-- the region for reading of an area of a plane
 abbrev pub ShowsArea : {X : Type 0} → Plane X → Area → PlaneRegion X → Type 0
 ShowsArea p a r = ShowsRect p.cfg p.samples.items (plane_area p.cfg a) r
 
@@ -56,7 +56,7 @@ pub record LendsPlane {X : Type 0} (p : Plane X) (r : PlaneRegionMut X) : Type 0
   pub shown : area r ≡ from_origin p.cfg
   pub stored : IsStored r
 
--- the region for writing of a rectangle; empty where the plane has a side of 0
+-- the region for writing of a rectangle of a plane; empty where the plane has a side of 0
 pub record LendsRect {X : Type 0} (p : Plane X) (rect : Rect) (r : PlaneRegionMut X) : Type 0 where
   pub plane : r.plane.now ≡ p
   pub start : 0 < p.cfg.width → 0 < p.cfg.height → 0 < rect.height → first_place r ≡ rect_start p.cfg rect
@@ -66,6 +66,6 @@ pub record LendsRect {X : Type 0} (p : Plane X) (rect : Rect) (r : PlaneRegionMu
   pub no_height : p.cfg.height ≡ 0 → area r ≡ no_area
   pub stored : IsStored r
 
--- the region for writing of an area
+-- the region for writing of an area of a plane
 abbrev pub LendsArea : {X : Type 0} → Plane X → Area → PlaneRegionMut X → Type 0
 LendsArea p a r = LendsRect p (plane_area p.cfg a) r

@@ -21,6 +21,6 @@ abbrev pub sliced_row : {X : Type 0} → PlaneSlice X → ℕ → List X
 sliced_row s i =
     row_rest s.plane.now.cfg s.plane.now.samples.items (slice_row s + i) (slice_column s)
 
--- where its first sample stands in the plane's samples
+-- where a slice's first sample stands in the samples of its plane
 abbrev pub slice_start : {X : Type 0} → PlaneSlice X → ℕ
 slice_start s = slice_row s * s.plane.now.cfg.stride + slice_column s

@@ -1,4 +1,4 @@
--- A tile of a frame: one rectangle of luma, and the same shifted by its decimations in each chroma plane.
+-- A tile of a frame: a luma rectangle, and in each chroma plane this rectangle by its decimations.
 use Rattle.std.specs.Prelude.{◌≡◌, ◌<◌, ◌≤◌}
 use Rattle.av1_plane.specs.declared.plane.PlaneConfig.{PlaneConfig}
 use Rattle.av1_plane.specs.declared.plane.Plane.{Plane}
@@ -56,22 +56,22 @@ IsTileUnder f luma t = IsTileOver f.planes.y f.planes.u f.planes.v luma t
 abbrev pub whole_tile : {X : Type 0} → Frame X → TileRect
 whole_tile f = record { x = 0; y = 0; width = f.planes.y.cfg.width; height = f.planes.y.cfg.height }
 
--- a rectangle of luma in a plane of that layout
+-- the rectangle of a plane of this layout that a luma rectangle covers
 abbrev pub luma_part : PlaneConfig → Rect → Rect
 luma_part cfg part = decimated_rect part cfg.xdec cfg.ydec
 
--- the same as an area
+-- the area of a region of this layout that a luma rectangle covers
 abbrev pub luma_area : PlaneConfig → Rect → Area
 luma_area cfg part =
     variants.Rect (luma_part cfg part).x (luma_part cfg part).y (luma_part cfg part).width (luma_part cfg part).height
 
--- a region without samples, or one that holds a rectangle of luma
+-- a region without samples, or one that holds a luma rectangle
 pub record HoldsPart (layout : PlaneConfig) (whole part : Rect) : Type 0 where
   pub xdec : layout.xdec ≤ 1
   pub ydec : layout.ydec ≤ 1
   pub inside : 0 < whole.width → 0 < whole.height → HoldsArea layout whole (luma_area layout part)
 
--- that rectangle of it; empty where it is
+-- t is the part of the region s that a luma rectangle covers; t is empty where s is
 abbrev pub IsLumaPart : {X : Type 0} → Seen X → Seen X → Rect → Type 0
 IsLumaPart s t part = IsAreaOf s t (luma_area s.cfg part)
 
@@ -89,30 +89,30 @@ pub record IsStoredTile {X : Type 0} (t : TileMut X) : Type 0 where
   pub u : IsStored t.planes.u
   pub v : IsStored t.planes.v
 
--- the rectangle of luma of an area of a tile
+-- the luma rectangle of an area of a tile
 abbrev pub luma_rect : {X : Type 0} → Three (Seen X) → Area → Rect
 luma_rect s a = area_rect a 0 0 s.y.area.width s.y.area.height
 
--- a tile that holds an area, which counts in luma
+-- a tile holds an area, which is given in luma samples
 pub record HoldsLuma {X : Type 0} (s : Three (Seen X)) (a : Area) : Type 0 where
   pub area : IsArea a 0 0 s.y.area.width s.y.area.height
   pub y : HoldsPart s.y.cfg s.y.area (luma_rect s a)
   pub u : HoldsPart s.u.cfg s.u.area (luma_rect s a)
   pub v : HoldsPart s.v.cfg s.v.area (luma_rect s a)
 
--- t is that area of the tile s
+-- t is the part of the tile s that an area, given in luma samples, covers
 pub record IsTilePart {X : Type 0} (s t : Three (Seen X)) (a : Area) : Type 0 where
   pub y : IsLumaPart s.y t.y (luma_rect s a)
   pub u : IsLumaPart s.u t.u (luma_rect s a)
   pub v : IsLumaPart s.v t.v (luma_rect s a)
 
--- the tile is over the planes that it was over before
+-- the tile b lies over the planes that the tile a lies over
 pub record KeepsPlanes {X : Type 0} (a b : TileMut X) : Type 0 where
   pub y : b.planes.y.plane.ghost_name ≡ a.planes.y.plane.ghost_name
   pub u : b.planes.u.plane.ghost_name ≡ a.planes.u.plane.ghost_name
   pub v : b.planes.v.plane.ghost_name ≡ a.planes.v.plane.ghost_name
 
--- the frame's planes are those under the tile
+-- the planes of the frame are the planes under the tile
 pub record HasPlanesOf {X : Type 0} (t : TileMut X) (f : Frame X) : Type 0 where
   pub y : f.planes.y ≡ t.planes.y.plane.now
   pub u : f.planes.u ≡ t.planes.u.plane.now

@@ -12,7 +12,7 @@ pub trait AsRegion<T> {
     ghost use Rattle.av1_plane.specs.declared.region.PlaneRegion.{PlaneRegion};
     ghost use Rattle.av1_plane.specs.declared.region_mut.PlaneRegionMut.{PlaneRegionMut};
 
-    // an area that it holds
+    // an area that the plane or region holds
     ghost holds: { Self → Area → Type 0 };
 
     // the region of all its samples

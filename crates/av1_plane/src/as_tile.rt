@@ -12,10 +12,10 @@ pub trait AsTile<T> {
     // each plane stores its part of the whole
     ghost holds_all: { Self → Type 0 };
 
-    // the tile of all of it
+    // the tile of the whole frame or tile
     ghost shows_all: { Self → Tile T → Type 0 };
 
-    // the tile of all of it, for writing
+    // the tile of the whole frame or tile, for writing
     ghost lends_all: { Self → TileMut T → Type 0 };
 
     /// The whole frame, its sides rounded up to multiples of 8.

@@ -160,7 +160,7 @@ pub(crate) fn sum(a: isize, b: isize) -> isize
     a + b
 }
 
-// A rectangle that counts from the start of another, from where that one counts.
+// The rectangle `part`, which counts from the start of `whole`, in the coordinates of `whole`.
 #[tactic(auto, using(crate::proofs::Places::signed))]
 pub(crate) fn joined(whole: &Rect, part: &Rect) -> Rect
     requires near { IsNearRect whole.now }

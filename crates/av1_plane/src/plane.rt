@@ -130,7 +130,7 @@ impl<T: Pixel> Plane<T> {
         self.samples.slice_mut(from..from + count)
     }
 
-    // All samples, for writing.
+    // All stored samples of the plane, for writing.
     pub(crate) fn all_mut(&mut self) -> &mut [T]
         ensures* lends { sem 𝓛 (LendsPlaneRun T.row self.entry result 0) }
         ensures all { result.now ≡ self.old.samples.items }

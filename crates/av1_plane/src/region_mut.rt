@@ -41,7 +41,7 @@ impl<'a, T: Pixel> PlaneRegionMut<'a, T> {
     ghost use Rattle.av1_plane.specs.Reading.{seen_as, seen_under, rows_of, first_sample, first_block, first_superblock, StartsOnBlock, StartsOnSuperBlock, CanCut, IsAreaOf};
     ghost use Rattle.av1_plane.specs.Windows.{all_down, all_across};
 
-    // The region of that rectangle whose row `i` is the `width` samples from place `start` on, a
+    // The region of a rectangle whose row `i` is the `width` samples from place `start` on, a
     // stride further for each row.
     fn at(
         plane: &'a mut Plane<T>,
@@ -96,7 +96,7 @@ impl<'a, T: Pixel> PlaneRegionMut<'a, T> {
     }
 
     /// The region of a rectangle of the plane; empty where the plane has a side of 0. When it ends, the
-    /// plane is what was left under it.
+    /// plane is what was left under the region.
     pub fn new(plane: &'a mut Plane<T>, rect: Rect) -> PlaneRegionMut<'a, T>
         requires inside { StoresRect plane.old.cfg rect }
         ensures name { result.plane.ghost_name ≡ plane.entry.ghost_name }

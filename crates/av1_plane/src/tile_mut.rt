@@ -16,7 +16,7 @@ use std::alloc::Global;
 
 /// One region of each plane of a frame, for reading and writing.
 ///
-/// Made as a literal of three named regions, it lets its maker know what each plane becomes.
+/// A tile made as a literal of three named regions lets its maker know what each plane becomes.
 #[derive(Debug, Drop)]
 pub struct TileMut<'a, T> {
     pub planes: Three<PlaneRegionMut<'a, T>>,
@@ -29,7 +29,7 @@ impl<'a, T: Pixel> TileMut<'a, T> {
     ghost use Rattle.av1_plane.specs.Reading.{seen_as, seen_under};
     ghost use Rattle.av1_plane.specs.Tiles.{tile_seen, tile_under, HoldsLuma, HoldsTile, IsStoredTile, IsTilePart, IsTileUnder};
 
-    /// The tile of that rectangle of luma, which each plane stores at its decimations; empty in a
+    /// The tile of a luma rectangle, which each plane stores at its decimations; empty in a
     /// plane with a side of 0. What the frame becomes is said by `with_frame`.
     pub fn new(frame: &'a mut Frame<T>, luma_rect: TileRect) -> TileMut<'a, T>
         requires near { IsNear luma_rect }

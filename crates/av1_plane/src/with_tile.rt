@@ -12,10 +12,10 @@ use crate::three::Three;
 use crate::tile_mut::{TileMut, lent_part};
 use crate::tile_rect::TileRect;
 
-/// Runs `work` on the tile of that rectangle of luma. Each plane of the frame is afterwards what
+/// Runs `work` on the tile of a luma rectangle. Each plane of the frame is afterwards what
 /// `work` left under the tile's region.
 ///
-/// `work` may write through the tile and lend it on; it may not put another tile in its place.
+/// `work` may write through the tile and lend the tile on, but may not put another one in its place.
 pub fn with_frame<T: Pixel, R, F: FnOnce(&mut TileMut<'_, T>) -> R>(
     frame: &mut Frame<T>,
     luma_rect: TileRect,

@@ -13,7 +13,7 @@ use crate::region_mut::PlaneRegionMut;
 use crate::rows_iter_mut::RowsIterMut;
 
 impl<'a, T: Pixel> PlaneRegionMut<'a, T> {
-    /// An area of the region, which gives up its plane to it; empty where the region is.
+    /// An area of the region, which gives its plane up to the area; empty where the region is.
     pub fn into_subregion(self, part: Area) -> PlaneRegionMut<'a, T>
         requires stored { IsStored self }
         requires inside { CanCut (seen_under self) part }
