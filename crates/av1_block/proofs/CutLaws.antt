@@ -12,7 +12,7 @@ use Rattle.av1_block.proofs.Runs.{overwritten_same, overwritten_comm, run_of_app
 use Rattle.av1_block.proofs.Cuts.{less_high, row_inside, length_row, length_part, length-cut_of, length-with_cut}
 
 module _ {E : Type 0} where
-  -- what is put comes of as many entries as the rectangle has
+  -- entries past a rectangle's places aren't written
   pub with_cut_append : (table : List E) (cols x y width height : ℕ) (entries more : List E) → height * width ≤ length entries
       → with_cut table cols x y width height (entries ++ more) ≡ with_cut table cols x y width height entries
   unfolding with_cut
@@ -20,6 +20,7 @@ module _ {E : Type 0} where
   with_cut_append table cols x y width (suc height) entries more full =
       rw (with_cut_append table cols x y width height entries more (omega (arith, full)), run_of_append entries more (height * width) width (omega (arith, full))) refl
 
+  -- Putting the entries of a rectangle back into it changes nothing.
   pub put_same : (table : List E) (cols x y width height : ℕ) → LiesIn (length table) cols x y width height → with_cut table cols x y width height (cut_of table cols x y width height) ≡ table
   unfolding cut_of with_cut
   put_same table cols x y width zero inside = refl
@@ -35,7 +36,7 @@ module _ {E : Type 0} where
       )
       (overwritten_same table ((y + height) * cols + x) width (omega (arith, row)))
 
-  -- rows that end before a run don't see it
+  -- a run that is written below a rectangle doesn't change its cut
   pub cut_of_overwritten : (table : List E) (cols x y width height i : ℕ) (run : List E) → x + width ≤ cols → (y + height) * cols ≤ i → i ≤ length table
       → cut_of (overwritten table i run) cols x y width height ≡ cut_of table cols x y width height
   unfolding cut_of
@@ -43,6 +44,7 @@ module _ {E : Type 0} where
   cut_of_overwritten table cols x y width (suc height) i run across before fits =
       rw (cut_of_overwritten table cols x y width height i run across (omega (arith, before)) fits, run_before_overwritten table i run ((y + height) * cols + x) width (omega (arith, before, across)) fits) refl
 
+  -- Cutting a rectangle out after entries were put into it gives the entries' front.
   take_put : (table : List E) (cols x y width height : ℕ) (entries : List E) → LiesIn (length table) cols x y width height → height * width ≤ length entries
       → cut_of (with_cut table cols x y width height entries) cols x y width height ≡ take (height * width) entries
   unfolding cut_of with_cut
@@ -61,7 +63,7 @@ module _ {E : Type 0} where
       )
       (sym (take-add (height * width) width entries))
 
-  -- a rectangle without columns
+  -- a put into a rectangle without columns leaves the table as it is
   put_narrow : (table : List E) (cols x y width height : ℕ) (entries : List E) → width ≡ 0 → with_cut table cols x y width height entries ≡ table
   unfolding with_cut
   put_narrow table cols x y width zero entries narrow = refl
@@ -83,7 +85,7 @@ module _ {E : Type 0} where
       (overwritten_comm (with_cut table cols x y width height entries) i run ((y + height) * cols + x) (take width (drop (height * width) entries)) (omega (arith, same, fits)) (omega (arith, same, row, short))
       (elim (apart height (omega arith)) [ inl before ↦ inr (omega (arith, short, before)) | inr after ↦ inl after ]))
 
--- two runs of other rows, or of other columns
+-- two runs in different rows or in different columns share no place
 rows_apart : (cols x width x' width' row row' : ℕ) → x + width ≤ cols → x' + width' ≤ cols → (row ≡ row' → (x + width ≤ x') ⊎ (x' + width' ≤ x))
     → (row * cols + x + width ≤ row' * cols + x') ⊎ (row' * cols + x' + width' ≤ row * cols + x)
 rows_apart cols x width x' width' row row' across across' columns = elim (cases_order row row') [
@@ -110,6 +112,7 @@ columns_apart a b apart wide wide' v top bottom top' bottom' = elim (cases_lt b.
 ]
 
 module _ {E : Type 0} (table : List E) (cols : ℕ) (one other : TileRect) (ones others : List E) (inside : LiesInTable (length table) cols one) (apart : AreApart one other) (wide : 0 < one.width) (wide' : 0 < other.width) where
+  -- Rows put into one rectangle, one after another, commute with a put into another rectangle.
   puts_comm : (height : ℕ) → height ≤ other.height → LiesIn (length table) cols other.x other.y other.width height
       → with_cut (put_at table cols one ones) cols other.x other.y other.width height others ≡ put_at (with_cut table cols other.x other.y other.width height others) cols one ones
   unfolding with_cut
@@ -128,13 +131,16 @@ module _ {E : Type 0} (table : List E) (cols : ℕ) (one other : TileRect) (ones
         | inr after ↦ inr (omega (arith, short, after))
       ])))
 
+-- Putting the cut of a rectangle back into its table changes nothing.
 pub put_of_cut_is_same : {E : Type 0} → PutOfCutIsSame E
 put_of_cut_is_same table cols rect inside = put_same table cols rect.x rect.y rect.width rect.height inside
 
+-- Cutting a rectangle out after entries were put into it gives these entries.
 pub cut_of_put_is_put : {E : Type 0} → CutOfPutIsPut E
 cut_of_put_is_put table entries cols rect inside full =
     take_put table cols rect.x rect.y rect.width rect.height entries inside (omega (arith, full)) ∙ take_all (rect.height * rect.width) entries (omega (arith, full))
 
+-- Puts into two rectangles without a common place give the same table in either order.
 pub puts_commute : {E : Type 0} → PutsCommute E
 puts_commute table ones others cols one other inside inside' apart = elim (eq-zero-or-pos one.width) [
   | inl narrow ↦ rw (put_narrow table cols one.x one.y one.width one.height ones narrow, put_narrow (put_at table cols other others) cols one.x one.y one.width one.height ones narrow) refl

@@ -6,19 +6,22 @@ use Rattle.std.proofs.lemmas.List.{length-take, take-map, drop-map, map-append, 
 use Rattle.av1_block.specs.Cut.{LiesIn, cut_of, overwritten, with_cut}
 use Rattle.av1_block.proofs.Runs.{length-overwritten, overwritten_before, overwritten_within, overwritten_after, map-overwritten}
 
--- one row more
+-- a cut of a rectangle without rows is empty
 pub cut_of-zero : {E : Type 0} (table : List E) (cols x y width : ℕ) → cut_of table cols x y width 0 ≡ []
 unfolding cut_of
 cut_of-zero table cols x y width = refl
 
+-- One row more in a rectangle adds one row of entries to the cut.
 pub cut_of-add_one : {E : Type 0} (table : List E) (cols x y width height : ℕ) → cut_of table cols x y width (height + 1) ≡ cut_of table cols x y width height ++ take width (drop ((y + height) * cols + x) table)
 unfolding cut_of
 cut_of-add_one table cols x y width height = rw add-one refl
 
+-- A rectangle without rows leaves the table as it is.
 pub with_cut-zero : {E : Type 0} (table : List E) (cols x y width : ℕ) (entries : List E) → with_cut table cols x y width 0 entries ≡ table
 unfolding with_cut
 with_cut-zero table cols x y width entries = refl
 
+-- One row more in a rectangle writes one row more into the table.
 pub with_cut-add_one : {E : Type 0} (table : List E) (cols x y width height : ℕ) (entries : List E) → with_cut table cols x y width (height + 1) entries ≡ overwritten (with_cut table cols x y width height entries) ((y + height) * cols + x) (take width (drop (height * width) entries))
 unfolding with_cut
 with_cut-add_one table cols x y width height entries = rw add-one refl
@@ -27,7 +30,7 @@ with_cut-add_one table cols x y width height entries = rw add-one refl
 pub row_inside : (n cols x y width height j : ℕ) → LiesIn n cols x y width height → j < height → y * cols + j * cols + x + width ≤ n
 row_inside n cols x y width height j inside below = omega (arith, mul-le (y + j + 1) cols (y + height) cols (omega arith) (omega arith))
 
--- so its entries are no more than the table's
+-- a rectangle in a table has no more places than the table has entries
 pub area_inside : (n cols x y width height : ℕ) → LiesIn n cols x y width height → width * height ≤ n
 area_inside n cols x y width height inside = omega (arith, mul-le width height cols (y + height) (omega arith) (omega arith))
 
@@ -35,10 +38,11 @@ area_inside n cols x y width height inside = omega (arith, mul-le width height c
 pub length_row : {E : Type 0} (xs : List E) (width i : ℕ) → i + width ≤ length xs → length (take width (drop i xs)) ≡ width
 length_row xs width i inside = simp (length-take, length-drop) (omega arith)
 
--- the rectangle without its last row
+-- a rectangle that lies in a table lies there without its last row
 pub less_high : (n cols x y width height : ℕ) → LiesIn n cols x y width (suc height) → LiesIn n cols x y width height
 less_high n cols x y width height inside = record { across = inside.across; down = omega (arith, inside.down, mul-le (y + height) cols (y + suc height) cols (omega arith) (omega arith)) }
 
+-- A cut has as many entries as its rectangle has places.
 pub length-cut_of : {E : Type 0} (table : List E) (cols x y width height : ℕ) → LiesIn (length table) cols x y width height → length (cut_of table cols x y width height) ≡ height * width
 unfolding cut_of
 length-cut_of table cols x y width zero inside = omega arith
@@ -53,6 +57,7 @@ pub ruleset cuts = (cut_of-zero, cut_of-add_one, with_cut-zero, with_cut-add_one
 pub length_part : {E : Type 0} (xs : List E) (width i : ℕ) → length (take width (drop i xs)) ≤ width
 length_part xs width i = simp (length-take, length-drop) (omega arith)
 
+-- Writing entries into a rectangle keeps the length of the table.
 pub length-with_cut : {E : Type 0} (table : List E) (cols x y width height : ℕ) (entries : List E) → LiesIn (length table) cols x y width height → length (with_cut table cols x y width height entries) ≡ length table
 unfolding with_cut
 length-with_cut table cols x y width zero entries inside = refl
@@ -63,6 +68,7 @@ length-with_cut table cols x y width (suc height) entries inside =
 
 -- a cut holds what stands in its rectangle
 module _ {E : Type 0} (table : List E) (cols x y width : ℕ) (i : ℕ) (d : E) (in_row : i < width) where
+  -- The rows of a cut before its last one have width entries each.
   last_of_cut : (height : ℕ) → length (cut_of table cols x y width height) ≡ height * width
       → get_or (cut_of table cols x y width (suc height)) (height * width + i) d ≡ get_or table ((y + height) * cols + x + i) d
   unfolding cut_of
@@ -72,6 +78,7 @@ module _ {E : Type 0} (table : List E) (cols x y width : ℕ) (i : ℕ) (d : E) 
       ∙ (ap (λ n. get_or (take width (drop ((y + height) * cols + x) table)) n d) place
       ∙ (get_or-take width (drop ((y + height) * cols + x) table) i d in_row ∙ get_or-drop ((y + height) * cols + x) table i d))
 
+  -- Entry j of a cut is the table's entry at the place that j stands for.
   pub cut_of_inside : (height j : ℕ) → LiesIn (length table) cols x y width height → j < height
       → get_or (cut_of table cols x y width height) (j * width + i) d ≡ get_or table ((y + j) * cols + x + i) d
   unfolding cut_of
@@ -88,8 +95,9 @@ module _ {E : Type 0} (table : List E) (cols x y width : ℕ) (i : ℕ) (d : E) 
             subst (λ (n : ℕ). get_or (cut_of table cols x y width (suc height)) (n * width + i) d ≡ get_or table ((y + n) * cols + x + i) d) same (last_of_cut height long)
       ]
 
--- the rows before the last are written before it, and their places aren't written again
+-- Rows of a rectangle are written one after another, and no place is written twice.
 module _ {E : Type 0} (table : List E) (cols x y width : ℕ) (entries : List E) (d : E) where
+  -- The last row of a put has the entries given for it.
   last_of_put : (height i : ℕ) → LiesIn (length table) cols x y width (suc height) → suc height * width ≤ length entries → i < width
       → get_or (with_cut table cols x y width (suc height) entries) ((y + height) * cols + x + i) d ≡ get_or entries (height * width + i) d
   unfolding with_cut
@@ -102,7 +110,7 @@ module _ {E : Type 0} (table : List E) (cols x y width : ℕ) (entries : List E)
       ∙ (ap (λ n. get_or (take width (drop (height * width) entries)) n d) place
       ∙ (get_or-take width (drop (height * width) entries) i d in_row ∙ get_or-drop (height * width) entries i d))
 
-  -- a place outside every row of the rectangle is as it was
+  -- an entry outside every row of a rectangle stays when the rectangle is written
   pub with_cut_elsewhere : (height k : ℕ) → LiesIn (length table) cols x y width height → ((j : ℕ) → j < height → (k < (y + j) * cols + x) ⊎ ((y + j) * cols + x + width ≤ k))
       → get_or (with_cut table cols x y width height entries) k d ≡ get_or table k d
   unfolding with_cut
@@ -117,7 +125,7 @@ module _ {E : Type 0} (table : List E) (cols x y width : ℕ) (entries : List E)
         | inr over ↦ overwritten_after (with_cut table cols x y width height entries) ((y + height) * cols + x) (take width (drop (height * width) entries)) k d (omega (arith, before, row)) (omega (arith, short, over)) ∙ rest
       ]
 
-  -- a place of the rectangle has the entry that was put there
+  -- an entry inside a rectangle is the one that was written there
   pub with_cut_inside : (height i j : ℕ) → LiesIn (length table) cols x y width height → height * width ≤ length entries → i < width → j < height
       → get_or (with_cut table cols x y width height entries) ((y + j) * cols + x + i) d ≡ get_or entries (j * width + i) d
   unfolding with_cut
@@ -152,7 +160,7 @@ row_apart cols x width u v row across in_cols apart = elim (cases_order v row) [
   ]
 ]
 
--- a place outside the rectangle is as it was
+-- an entry outside a rectangle stays when the rectangle is written
 pub with_cut_outside : {E : Type 0} (table : List E) (cols x y width height : ℕ) (entries : List E) (u v : ℕ) (d : E) → LiesIn (length table) cols x y width height → u < cols
     → (u < x) ⊎ ((x + width ≤ u) ⊎ ((v < y) ⊎ (y + height ≤ v)))
     → get_or (with_cut table cols x y width height entries) (v * cols + u) d ≡ get_or table (v * cols + u) d
@@ -163,14 +171,16 @@ with_cut_outside table cols x y width height entries u v d inside in_cols outsid
       | inr rest ↦ elim rest [ inl right ↦ inr (inl right) | inr other ↦ elim other [ inl above ↦ inr (inr (inl (omega (arith, above)))) | inr under ↦ inr (inr (inr (omega (arith, under, less)))) ] ]
     ]))
 
--- cuts of the images of the entries
+-- Cuts of mapped tables.
 module _ {E D : Type 0} (f : E → D) where
+  -- Mapping a cut is cutting the mapped table.
   pub map_cut_of : (table : List E) (cols x y width height : ℕ) → map f (cut_of table cols x y width height) ≡ cut_of (map f table) cols x y width height
   unfolding cut_of
   map_cut_of table cols x y width zero = refl
   map_cut_of table cols x y width (suc height) =
       rw (map-append f (cut_of table cols x y width height) (take width (drop ((y + height) * cols + x) table)), map_cut_of table cols x y width height, ← take-map f width (drop ((y + height) * cols + x) table), ← drop-map f ((y + height) * cols + x) table) refl
 
+  -- Mapping a put is putting mapped entries into the mapped table.
   pub map_with_cut : (table : List E) (cols x y width height : ℕ) (entries : List E) → map f (with_cut table cols x y width height entries) ≡ with_cut (map f table) cols x y width height (map f entries)
   unfolding with_cut
   map_with_cut table cols x y width zero entries = refl

@@ -5,14 +5,14 @@ use Rattle.av1_block.specs.Cut.{LiesIn, with_cut}
 use Rattle.av1_block.proofs.Runs.{drop_after_overwritten}
 use Rattle.av1_block.proofs.Cuts.{less_high, row_inside, length_part, length-with_cut}
 
--- the first rows of a rectangle
+-- the first rows of a rectangle in a table lie in the table
 pub first_rows : (n cols x y width height row : ℕ) → LiesIn n cols x y width height → row < height → LiesIn n cols x y width (row + 1)
 first_rows n cols x y width height row inside below = record {
   across = inside.across;
   down = omega (arith, inside.down, mul-le (y + (row + 1)) cols (y + height) cols (omega arith) (omega arith));
 }
 
--- the rows below those that were put are as they were
+-- writing the first rows of a rectangle leaves the rows below as they were
 pub below_put : {E : Type 0} (table : List E) (cols x y width height : ℕ) (entries : List E) (i : ℕ) → LiesIn (length table) cols x y width height → (y + height) * cols ≤ i
     → drop i (with_cut table cols x y width height entries) ≡ drop i table
 unfolding with_cut

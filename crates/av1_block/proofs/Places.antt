@@ -14,13 +14,13 @@ pub rectangle_stored : {E : Type 0} (xs : List E) (x y cols rows w h from : ℕ)
 rectangle_stored xs x y cols rows w h from across down whole is =
     rw (take_rest xs from, length-drop from xs) (omega (arith, mul-le (y + h) cols rows cols down (omega arith)))
 
--- and so do those of a part of a rectangle
+-- a part of a rectangle that is stored is stored
 pub part_stored : {E : Type 0} (xs : List E) (x y step cols rows w h : ℕ) → x + w ≤ cols → y + h ≤ rows → rows * step + cols ≤ length xs + step
     → h * step + w ≤ length (take (length xs - (y * step + x)) (drop (y * step + x) xs)) + step
 part_stored xs x y step cols rows w h across down stored =
     rw (take_rest xs (y * step + x), length-drop (y * step + x) xs) (omega (arith, mul-le (y + h) step rows step down (omega arith)))
 
--- a rectangle of a whole table
+-- a rectangle that stays inside a table's sides lies in the table
 pub placed_lies : (left top cols rows w h n : ℕ) → left + w ≤ cols → top + h ≤ rows → n ≡ cols * rows → LiesIn n cols left top w h
 placed_lies left top cols rows w h n across down whole = record {
   across = across;
@@ -29,5 +29,5 @@ placed_lies left top cols rows w h n across down whole = record {
 
 pub ruleset places = (row_ends)
 
--- an entry that is read
+-- Rules for reading an entry of a table.
 pub ruleset entries_read = (row_ends, get_or_read_under)

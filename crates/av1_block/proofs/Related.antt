@@ -13,7 +13,7 @@ use Rattle.av1_block.proofs.CutLaws.{cut_of_overwritten, with_cut_append}
 use Rattle.av1_block.proofs.FirstRows.{below_put}
 
 module _ {E : Type 0} (R : E → E → Type 0) where
-  -- one entry more
+  -- lists that are related in one entry more
   pub related_more : (xs ys : List E) (i : ℕ) (v e : E) → i < length ys → ((k : ℕ) (d : E) → k < i → R (get_or xs k d) (get_or ys k d)) → ((k : ℕ) (d : E) → i ≤ k → get_or ys k d ≡ get_or xs k d) → R (get_or ys i e) v
       → (k : ℕ) (d : E) → k < i + 1 → R (get_or xs k d) (get_or (set ys i v) k d)
   related_more xs ys i v e within changed rest here k d below = elim (cases_lt k i) [
@@ -25,9 +25,11 @@ module _ {E : Type 0} (R : E → E → Type 0) where
         subst (λ (n : ℕ). R (get_or xs n d) (get_or (set ys i v) n d)) same now
   ]
 
+  -- Setting entry i leaves the entries after it as they were.
   pub related_rest : (xs ys : List E) (i : ℕ) (v : E) → ((k : ℕ) (d : E) → i ≤ k → get_or ys k d ≡ get_or xs k d) → (k : ℕ) (d : E) → i + 1 ≤ k → get_or (set ys i v) k d ≡ get_or xs k d
   related_rest xs ys i v rest k d past = get_or-set_other ys i k v d (λ same. omega (arith, same, past)) ∙ rest k d (omega (arith, past))
 
+  -- Two pairs of related lists are related when appended.
   related_append : (xs ys xs' ys' : List E) → AreRelated R xs ys → AreRelated R xs' ys' → AreRelated R (xs ++ xs') (ys ++ ys')
   related_append xs ys xs' ys' one other = record {
     same = rw (length-append ys ys', length-append xs xs', one.same, other.same) refl;
@@ -39,6 +41,7 @@ module _ {E : Type 0} (R : E → E → Type 0) where
     ];
   }
 
+  -- Cuts without rows are related.
   pub related_none : (table : List E) (cols x y width : ℕ) → AreRelated R (cut_of table cols x y width 0) (cut_of table cols x y width 0)
   unfolding cut_of
   related_none table cols x y width = record { same = refl; each = λ k d within. absurd (omega (arith, within)) }
@@ -51,7 +54,7 @@ module _ {E : Type 0} (R : E → E → Type 0) where
     last_row : y * cols + row * cols + x + width ≤ length before
     last_row = row_inside _ _ _ _ _ (suc row) row inside (omega arith)
 
-    -- the rectangle after one row more
+    -- a cut with one row more is the cut and the row that was written
     next_cut : cut_of (overwritten table ((y + row) * cols + x) run) cols x y width (suc row) ≡ cut_of table cols x y width row ++ run
     unfolding cut_of
     next_cut = rw (
@@ -79,7 +82,7 @@ module _ {E : Type 0} (R : E → E → Type 0) where
         let put : with_cut before cols x y width row (cut ++ run) ≡ table = with_cut_append before cols x y width row cut run (omega (arith, full)) ∙ sym elsewhere in
         rw (next_cut, put, drop_at cut run (row * width) full, take_all width run (omega (arith, long))) refl
 
-    -- the loop's facts after one row more
+    -- what a loop over rows keeps holds after one row more
     pub next_row : (from next : ℕ) (after : List E) → from ≡ (y + row) * cols + x → next ≡ suc row → after ≡ overwritten table from run
         → AreRelated R (cut_of before cols x y width row) (cut_of table cols x y width row) → AreRelated R (take width (drop from table)) run
         → AreRelated R (cut_of before cols x y width next) (cut_of after cols x y width next) × (after ≡ with_cut before cols x y width next (cut_of after cols x y width next))
@@ -89,15 +92,17 @@ module _ {E : Type 0} (R : E → E → Type 0) where
         let last' : AreRelated R (take width (drop ((y + row) * cols + x) table)) run = subst (λ (n : ℕ). AreRelated R (take width (drop n table)) run) place last in
         subst (λ (n : ℕ). P n after) (sym step) (subst (λ (l : List E). P (suc row) l) (sym placed) (next_related rows last', next_elsewhere))
 
--- what holds of each entry of a rectangle
+-- Facts that hold of each entry of a rectangle.
 module _ {E : Type 0} (P : E → Type 0) where
+  -- What holds of all elements of two lists holds of all of the first one.
   All-front : (xs ys : List E) → All P (xs ++ ys) → All P xs
   All-front xs ys each = subst (λ (l : List E). All P l) (take_at xs ys (length xs) refl) (All-take P (length xs) (xs ++ ys) each)
 
+  -- What holds of all elements of two lists holds of all of the second one.
   All-back : (xs ys : List E) → All P (xs ++ ys) → All P ys
   All-back xs ys each = subst (λ (l : List E). All P l) (drop_at xs ys (length xs) refl) (All-drop P (length xs) (xs ++ ys) each)
 
-  -- holds of those of one row
+  -- what holds of all entries of a cut holds of the entries of one row
   All-row : (table : List E) (cols x y width height row : ℕ) → row < height → All P (cut_of table cols x y width height) → All P (take width (drop ((y + row) * cols + x) table))
   unfolding cut_of
   All-row table cols x y width zero row below each = absurd (omega (arith, below))
@@ -111,7 +116,7 @@ module _ {E : Type 0} (P : E → Type 0) where
             subst (λ (n : ℕ). All P (take width (drop ((y + n) * cols + x) table))) same (All-back rows last each)
       ]
 
-  -- also while only the rows above it were changed
+  -- what holds of a cut holds of its next row, while only the rows above were changed
   pub All-next_row : (before table : List E) (cols x y width height row from : ℕ) → LiesIn (length before) cols x y width height → row < height → from ≡ (y + row) * cols + x
       → table ≡ with_cut before cols x y width row (cut_of table cols x y width row) → All P (cut_of before cols x y width height) → All P (take width (drop from table))
   All-next_row before table cols x y width height row from inside below place elsewhere each =

@@ -20,6 +20,7 @@ ref_number_below ALTREF2_FRAME some = lit< tt
 ref_number_below ALTREF_FRAME some = lit< tt
 ref_number_below NONE_FRAME some = absurd (some refl)
 
+-- A reference with a number below 8 is a reference frame.
 pub not_none : (r : RefType) → ref_number r < 8 → r ≢ NONE_FRAME
 not_none r below none = omega (arith, below, ap ref_number none)
 
@@ -33,6 +34,7 @@ is_block-true xdec ydec b met = record {
   chroma = grind (arith, nat_tests);
 }
 
+-- A block with what the filters ask of it passes the test for it.
 pub is_block_of : (xdec ydec : ℕ) (b : Block) → IsBlock xdec ydec b → is_block xdec ydec b ≡ true
 is_block_of xdec ydec b rule =
     let below : ref_number (first_ref b) < 8 = ref_number_below (first_ref b) rule.reference in

@@ -9,6 +9,7 @@ use Rattle.av1_block.specs.declared.ref_type.RefType.{RefType}
 use Rattle.av1_block.specs.declared.ref_type.RefType.TheVariants.{INTRA_FRAME, NONE_FRAME}
 use Rattle.av1_block.specs.declared.prediction_mode.PredictionMode.TheVariants.{DC_PRED}
 
+-- the motion vector with both components 0
 abbrev pub no_motion : MotionVector
 no_motion = record { row = pos 0; col = pos 0 }
 

@@ -9,7 +9,7 @@ pub record LiesIn (n cols x y width height : ℕ) : Type 0 where
   pub across : x + width ≤ cols
   pub down : (y + height) * cols ≤ n
 
--- row by row, the entries of such a rectangle
+-- the entries of the rectangle of these sides at column x of row y, row by row
 unfoldable pub cut_of : {E : Type 0} → List E → ℕ → ℕ → ℕ → ℕ → ℕ → List E
 cut_of table cols x y width zero = []
 cut_of table cols x y width (suc height) =
@@ -19,23 +19,25 @@ cut_of table cols x y width (suc height) =
 abbrev pub overwritten : {E : Type 0} → List E → ℕ → List E → List E
 overwritten table i run = take i table ++ (run ++ drop (length run) (drop i table))
 
--- the table with these entries, row by row, in the rectangle
+-- the table with these entries, row by row, in the rectangle of these sides at column x of row y
 unfoldable pub with_cut : {E : Type 0} → List E → ℕ → ℕ → ℕ → ℕ → ℕ → List E → List E
 with_cut table cols x y width zero entries = table
 with_cut table cols x y width (suc height) entries =
     overwritten (with_cut table cols x y width height entries) ((y + height) * cols + x) (take width (drop (height * width) entries))
 
--- the table with f done to each entry of the rectangle
+-- the table with f done to each entry of the rectangle of these sides at column x of row y
 abbrev pub with_each : {E : Type 0} → (E → E) → List E → ℕ → ℕ → ℕ → ℕ → ℕ → List E
 with_each f table cols x y width height = with_cut table cols x y width height (map f (cut_of table cols x y width height))
 
--- the same for a rectangle with a place, in entries of the table
+-- a rectangle lies in a table of n entries with `cols` columns
 abbrev pub LiesInTable : ℕ → ℕ → TileRect → Type 0
 LiesInTable n cols rect = LiesIn n cols rect.x rect.y rect.width rect.height
 
+-- the entries of a table inside a rectangle, row by row
 abbrev pub cut_at : {E : Type 0} → List E → ℕ → TileRect → List E
 cut_at table cols rect = cut_of table cols rect.x rect.y rect.width rect.height
 
+-- the table with these entries, row by row, inside a rectangle
 abbrev pub put_at : {E : Type 0} → List E → ℕ → TileRect → List E → List E
 put_at table cols rect entries = with_cut table cols rect.x rect.y rect.width rect.height entries
 
@@ -54,11 +56,11 @@ AreApart a b = (u v : ℕ) → IsInside a u v → ¬ IsInside b u v
 abbrev pub cut_entries : {E : Type 0} → Cut E → List E
 cut_entries c = c.table.entries
 
--- where they stood
+-- the rectangle of the table that a cut was taken from
 abbrev pub cut_rect : {E : Type 0} → Cut E → TileRect
 cut_rect c = record { x = c.x; y = c.y; width = c.table.cols; height = c.table.rows }
 
--- the columns of the table that they were cut from
+-- how many columns the table has that a cut was taken from
 abbrev pub cut_table_cols : {E : Type 0} → Cut E → ℕ
 cut_table_cols c = c.table_cols
 

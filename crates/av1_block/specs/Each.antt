@@ -9,7 +9,7 @@ use Rattle.av1_block.specs.declared.block.Block.{Block}
 abbrev pub Takes : {F : Type 0} → Shared F (MutBor Block × Unit {0}) (Unit {0} × (MutBor Block × Unit {0})) → F → Block → Type 0
 Takes g f block = (shown : MutBor Block) → shown.now ≡ block → g.pre f (shown, tt)
 
--- a call of f at a `&mut` to a block may leave another there
+-- a call of f at a `&mut` to the block `before` may leave the block `after` there
 pub record Leaves {F : Type 0} (g : Shared F (MutBor Block × Unit {0}) (Unit {0} × (MutBor Block × Unit {0}))) (f : F) (before after : Block) : Type 0 where
   pub shown : MutBor Block
   pub shows : shown.now ≡ before
@@ -17,7 +17,7 @@ pub record Leaves {F : Type 0} (g : Shared F (MutBor Block × Unit {0}) (Unit {0
   pub met : g.post f (shown, tt) (tt, (left, tt))
   pub leaves : left.now ≡ after
 
--- each call of f at a `&mut` to a block leaves `change` of it there
+-- each call of f at a `&mut` to a block leaves `change` of the block in its place
 abbrev pub Computes : {F : Type 0} → Shared F (MutBor Block × Unit {0}) (Unit {0} × (MutBor Block × Unit {0})) → F → (Block → Block) → Type 0
 Computes g f change = (before after : Block) → Leaves g f before after → after ≡ change before
 

@@ -1,6 +1,7 @@
 -- What contracts see of a table: its entries, row by row, and its sides.
 use Rattle.std.specs.Prelude.{ℕ, List, ◌++◌, length, take, drop, slice_set}
 
+-- a table: its entries, row by row, and how many columns and rows it has
 pub record Rows (E : Type 0) : Type 0 where
   pub entries : List E
   pub cols : ℕ

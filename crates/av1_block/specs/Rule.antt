@@ -11,20 +11,23 @@ use Rattle.av1_block.specs.Block.{first_ref}
 abbrev pub chroma_side : ℕ → ℕ → ℕ
 chroma_side dec side = max (side / 2 ^ dec) 1
 
+-- the width of a block's chroma part, in units of 4 samples
 abbrev pub chroma_width : ℕ → BlockSize → ℕ
 chroma_width xdec size = chroma_side xdec (block_width size)
 
+-- the height of a block's chroma part, in units of 4 samples
 abbrev pub chroma_height : ℕ → BlockSize → ℕ
 chroma_height ydec size = chroma_side ydec (block_height size)
 
--- where only the width is halved, a block higher than wide has no chroma size
+-- whether a block has a chroma size: a high one has none where only the width is halved
 abbrev pub has_chroma_size : ℕ → ℕ → BlockSize → Bool
 has_chroma_size xdec ydec size = (xdec == ydec) || nat_le (block_height size) (block_width size)
 
--- a side of the largest chroma transform, which has at most 32 samples
+-- the width of a block's largest chroma transform, in units of 4 samples and at most 32 samples
 abbrev pub chroma_tx_width : ℕ → BlockSize → ℕ
 chroma_tx_width xdec size = min (chroma_width xdec size) 8
 
+-- the height of a block's largest chroma transform, in units of 4 samples and at most 32 samples
 abbrev pub chroma_tx_height : ℕ → BlockSize → ℕ
 chroma_tx_height ydec size = min (chroma_height ydec size) 8
 
@@ -36,7 +39,7 @@ pub record IsBlock (xdec ydec : ℕ) (b : Block) : Type 0 where
   pub reference : first_ref b ≢ NONE_FRAME
   pub chroma : IsTrue (has_chroma_size xdec ydec b.bsize)
 
--- the same as a test
+-- whether a block has what the filters ask of it under these decimations
 abbrev pub is_block : ℕ → ℕ → Block → Bool
 is_block xdec ydec b =
     nat_le 1 b.n4_w && nat_le 1 b.n4_h && nat_le b.cdef_index 7 && nat_lt (ref_number (first_ref b)) 8

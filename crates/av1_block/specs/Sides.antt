@@ -9,6 +9,7 @@ use Rattle.av1_block.specs.declared.ref_type.RefType.TheVariants.{INTRA_FRAME, L
 use Rattle.av1_block.specs.declared.prediction_mode.PredictionMode.{PredictionMode}
 use Rattle.av1_block.specs.declared.prediction_mode.PredictionMode.TheVariants.{DC_PRED, V_PRED, H_PRED, D45_PRED, D135_PRED, D113_PRED, D157_PRED, D203_PRED, D67_PRED, SMOOTH_PRED, SMOOTH_V_PRED, SMOOTH_H_PRED, PAETH_PRED, UV_CFL_PRED, NEARESTMV, NEAR0MV, NEAR1MV, NEAR2MV, GLOBALMV, NEWMV, NEAREST_NEARESTMV, NEAR_NEAR0MV, NEAR_NEAR1MV, NEAR_NEAR2MV, NEAREST_NEWMV, NEW_NEARESTMV, NEAR_NEW0MV, NEAR_NEW1MV, NEAR_NEW2MV, NEW_NEAR0MV, NEW_NEAR1MV, NEW_NEAR2MV, GLOBAL_GLOBALMV, NEW_NEWMV}
 
+-- Num_4x4_Blocks_Wide: how many units of 4 samples a block is wide
 abbrev pub block_width : BlockSize → ℕ
 block_width BLOCK_4X4 = 1
 block_width BLOCK_4X8 = 1
@@ -33,6 +34,7 @@ block_width BLOCK_32X8 = 8
 block_width BLOCK_16X64 = 4
 block_width BLOCK_64X16 = 16
 
+-- Num_4x4_Blocks_High: how many units of 4 samples a block is high
 abbrev pub block_height : BlockSize → ℕ
 block_height BLOCK_4X4 = 1
 block_height BLOCK_4X8 = 2
@@ -57,6 +59,7 @@ block_height BLOCK_32X8 = 2
 block_height BLOCK_16X64 = 16
 block_height BLOCK_64X16 = 4
 
+-- how many units of 4 samples a transform is wide
 abbrev pub tx_width : TxSize → ℕ
 tx_width TX_4X4 = 1
 tx_width TX_8X8 = 2
@@ -78,6 +81,7 @@ tx_width TX_32X8 = 8
 tx_width TX_16X64 = 4
 tx_width TX_64X16 = 16
 
+-- how many units of 4 samples a transform is high
 abbrev pub tx_height : TxSize → ℕ
 tx_height TX_4X4 = 1
 tx_height TX_8X8 = 2
@@ -99,6 +103,7 @@ tx_height TX_32X8 = 2
 tx_height TX_16X64 = 16
 tx_height TX_64X16 = 4
 
+-- the number of a reference frame; 8, which the specification does not have, stands for none
 abbrev pub ref_number : RefType → ℕ
 ref_number INTRA_FRAME = 0
 ref_number LAST_FRAME = 1
@@ -110,6 +115,7 @@ ref_number ALTREF2_FRAME = 6
 ref_number ALTREF_FRAME = 7
 ref_number NONE_FRAME = 8
 
+-- whether a reference is the frame itself, as intra prediction has it
 abbrev pub is_intra : RefType → Bool
 is_intra INTRA_FRAME = true
 is_intra LAST_FRAME = false

@@ -15,35 +15,35 @@ table_entries t = t.entries
 abbrev pub view_entries : {E : Type 0} → TileView E → List E
 view_entries v = v.entries.now
 
--- how far apart its rows begin in them
+-- how far apart the rows of a view begin in its entries
 abbrev pub view_step : {E : Type 0} → TileView E → ℕ
 view_step v = v.step
 
--- its first column in the frame's table
+-- the column of the frame's table at which a view begins
 abbrev pub view_x : {E : Type 0} → TileView E → ℕ
 view_x v = v.x
 
--- its first row in the frame's table
+-- the row of the frame's table at which a view begins
 abbrev pub view_y : {E : Type 0} → TileView E → ℕ
 view_y v = v.y
 
--- its width
+-- how many columns a view has
 abbrev pub view_cols : {E : Type 0} → TileView E → ℕ
 view_cols v = v.cols
 
--- its height
+-- how many rows a view has
 abbrev pub view_rows : {E : Type 0} → TileView E → ℕ
 view_rows v = v.rows
 
--- the width of the frame's table
+-- how many columns the frame's table has, of which a view shows a part
 abbrev pub view_frame_cols : {E : Type 0} → TileView E → ℕ
 view_frame_cols v = v.frame_cols
 
--- the height of the frame's table
+-- how many rows the frame's table has, of which a view shows a part
 abbrev pub view_frame_rows : {E : Type 0} → TileView E → ℕ
 view_frame_rows v = v.frame_rows
 
--- a view of blocks
+-- a view of blocks for reading
 abbrev pub TileBlocks : Type 0
 TileBlocks = TileView Block
 

@@ -12,27 +12,27 @@ use Rattle.av1_block.specs.Cut.{cut_of, with_cut, with_each}
 use Rattle.av1_block.specs.Sides.{block_width, block_height}
 use Rattle.av1_block.specs.Windows.{window_part}
 
--- a view of blocks
+-- a view of blocks for writing
 abbrev pub TileBlocksMut : Type 0
 TileBlocksMut = TileViewMut Block
 
--- the view's rectangle
+-- the rectangle of a view for writing
 abbrev pub window : {E : Type 0} → TileViewMut E → Window
 window v = v.window
 
--- the table that it borrows
+-- the table that a view for writing borrows
 abbrev pub table_under : {E : Type 0} → TileViewMut E → Rows E
 table_under v = v.table.now
 
--- the entries of this table, row by row
+-- the entries of the table that a view for writing borrows, row by row
 abbrev pub entries_under : {E : Type 0} → TileViewMut E → List E
 entries_under v = (table_under v).entries
 
--- the name of the reference to the table
+-- the name of the reference by which a view for writing borrows its table
 abbrev pub lent_name : {E : Type 0} → TileViewMut E → GName
 lent_name v = v.table.ghost_name
 
--- where column x of row y of the view stands in the table's entries
+-- where column x of row y of a view stands in the entries of the table that it borrows
 abbrev pub place_under : {E : Type 0} → TileViewMut E → ℕ → ℕ → ℕ
 place_under v x y = ((window v).top + y) * (table_under v).cols + ((window v).left + x)
 
@@ -41,14 +41,14 @@ abbrev pub block_under : TileBlocksMut → ℕ → ℕ → Block
 block_under v x y =
     entry_at (entries_under v) (table_under v).cols ((window v).left + x) ((window v).top + y)
 
--- the rectangle lies in the table, and its place in the frame's table
+-- a view's rectangle lies in the table that it borrows, and its place lies in the frame's table
 pub record IsPlaced {E : Type 0} (v : TileViewMut E) : Type 0 where
   pub across : (window v).left + (window v).cols ≤ (table_under v).cols
   pub down : (window v).top + (window v).rows ≤ (table_under v).rows
   pub frame_across : (window v).x + (window v).cols ≤ (window v).frame_cols
   pub frame_down : (window v).y + (window v).rows ≤ (window v).frame_rows
 
--- b is a view of the same rectangle of the same table as a
+-- b shows a's rectangle of the table that a borrows, whose entries may have changed
 pub record IsSameView {E : Type 0} (a b : TileViewMut E) : Type 0 where
   pub name : lent_name b ≡ lent_name a
   pub window : window b ≡ window a

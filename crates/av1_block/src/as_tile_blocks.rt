@@ -14,11 +14,11 @@ pub trait AsTileBlocks {
 
     ghost lends: { Self → TileViewMut Block → Type 0 };
 
-    /// All its blocks, for reading.
+    /// All blocks of the table, for reading.
     fn as_tile_blocks(&self) -> TileBlocks<'_>
         ensures { shows self.now result };
 
-    /// All its blocks, for reading and writing.
+    /// All blocks of the table, for reading and writing.
     fn as_tile_blocks_mut(&mut self) -> TileBlocksMut<'_>
         ensures { lends self.old result };
 }

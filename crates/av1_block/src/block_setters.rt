@@ -6,7 +6,7 @@ use crate::tile_view_mut::TileViewMut;
 use crate::tx_size::TxSize;
 use av1_plane::{BlockOffset, TileBlockOffset, TileSuperBlockOffset};
 
-/// Each writes one field of every block of the size `bsize` at `bo`, where the view has it.
+/// Setters that write one field of every block of the size `bsize` at `bo`, as far as the view goes.
 impl TileViewMut<'_, Block> {
     ghost use Rattle.std.specs.Prelude.{◌≡◌, ◌*◌, ◌<◌};
     ghost use Rattle.av1_block.specs.Each.{Computes};

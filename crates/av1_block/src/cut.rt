@@ -39,7 +39,7 @@ impl<E: Copy> Cut<E> {
         })
     }
 
-    /// Writes the entries to the rectangle's place in a table of as many columns as the one that
+    /// Writes the entries to the rectangle's place in a table of as many columns as the table that
     /// they were cut from.
     #[tactic(auto, using(crate::proofs::Cuts::cuts))]
     pub fn put_back(&self, table: &mut [E])

@@ -114,7 +114,7 @@ impl<'a, E: Copy> TileViewMut<'a, E> {
         self.window.frame_rows
     }
 
-    /// The same entries, for reading.
+    /// The view's entries, for reading.
     pub fn as_const<'s>(&'s self) -> TileView<'s, E>
         requires { IsPlaced self.now }
         ensures entries { view_entries result
