@@ -29,11 +29,11 @@ blank_view number w h sampling f b = λ i. record {
   v = record { cfg = b.v.cfg i; samples = b.v.samples i };
 }
 
--- blank units have their layout
+-- blank units have the layout that they are made with
 pub blank_made : (cfg : RestorationPlaneConfig) → HasLayout cfg (blank_units cfg)
 blank_made cfg = record { layout = refl; cols = refl; rows = refl; entries = length-replicate (cfg.cols * cfg.rows) no_unit }
 
--- the first state of a frame is made for it
+-- the first state of a frame is made for the frame
 pub start_made : (p : Parameters) (input : Three PlaneView) (hres qres : PlaneView) → IsInputFor p input → IsStateFor p (start p input hres qres)
 start_made p input hres qres made = record {
   input = made.layout;
@@ -53,6 +53,7 @@ zero_at n i = elim (cases_lt i n) [
   | inr past ↦ get_or_past (replicate n (pos 0)) i (pos 0) (rw length-replicate past)
 ]
 
+-- The number 0 is below every bound above 0.
 in_range : (bound : ℕ) (z : ℤ) → 0 < bound → z ≡ pos 0 → InDepth bound z
 in_range bound z some e = rw e (grind arith, grind arith)
 
@@ -62,7 +63,7 @@ blank_in_range number layout p bound some zeroed x y hx hy =
     let i = (p.cfg.yorigin + y) * p.cfg.stride + (p.cfg.xorigin + x) in
     in_range bound (get_or (view_plane number p).samples i (pos 0)) some (ap (λ (xs : List ℤ). get_or xs i (pos 0)) zeroed.samples ∙ zero_at (layout.stride * layout.alloc_height) i)
 
--- so a new frame can be the input of one of its sides and sampling
+-- a new frame can be the input of a frame of its sides and its sampling
 pub blank_input : {X : Type 0} (number : X → ℤ) (p : Parameters) (f : Frame X) (w h : ℕ) (sampling : ChromaSampling) → p.width ≡ w → p.height ≡ h → p.sequence.chroma_sampling ≡ sampling
     → IsBlank number w h sampling f → IsInputFor p (view_frame number f)
 blank_input number p f w h sampling wide high sampled b =

@@ -19,7 +19,7 @@ part_of a w i x some h =
     let high : x < i * a + a = let l = h.0 in let r = h.1 in omega arith in
     sym (ap (λ (y : ℕ). y / a) (let e : x ≡ i * a + (x - i * a) = omega arith in e) ∙ div-mul-add i a (x - i * a) (omega arith))
 
--- equal parts, the last cut to the line
+-- parts of one size, the last one cut, cut a line
 pub even_cut : (a w count : ℕ) → 0 < a → w ≤ count * a → IsCut (λ i. min (i * a) w) (λ i. min a (w - i * a)) count w
 even_cut a w count some enough = record {
   inside = λ i _. omega arith;
@@ -30,7 +30,7 @@ even_cut a w count some enough = record {
   apart = λ i j x _ _ p q. part_of a w i x some p ∙ sym (part_of a w j x some q);
 }
 
--- parts that begin and end alike
+-- parts that begin and end alike cut a line alike
 pub cut_like : (start size start' size' : ℕ → ℕ) (count whole : ℕ) → ((i : ℕ) → i < count → (start' i ≡ start i) × (size' i ≡ size i)) → IsCut start size count whole → IsCut start' size' count whole
 cut_like start size start' size' count whole same cut = record {
   inside = λ i l. let e = same i l in let h = cut.inside i l in let e0 = e.0 in let e1 = e.1 in omega arith;
@@ -41,7 +41,7 @@ cut_like start size start' size' count whole same cut = record {
       cut.apart i j x li lj (omega arith, omega arith) (omega arith, omega arith);
 }
 
--- one part
+-- one part that is the whole line cuts the line
 pub one_cut : (start size : ℕ → ℕ) (whole : ℕ) → start 0 ≡ 0 → size 0 ≡ whole → IsCut start size 1 whole
 one_cut start size whole first all = record {
   inside = λ i l. let e : 0 ≡ i = omega arith in subst (λ (x : ℕ). start x + size x ≤ whole) e (omega arith);

@@ -25,6 +25,7 @@ small = record {
   min_tiles_log2 = 0;
 }
 
+-- A rectangle by its place and its sides.
 abbrev rect : ℕ → ℕ → ℕ → ℕ → TileRect
 rect x y width height = record { x = x; y = y; width = width; height = height }
 
@@ -38,7 +39,7 @@ nine_tiles : grid 6 160 144 25 1 10 8 false ≡ Some small
 unfolding rate_log2 tile_width least tile_log2
 nine_tiles = refl
 
--- the same with superblocks of 128 samples
+-- a frame of 160 by 144 in superblocks of 128 samples has four tiles
 four_tiles : grid 7 160 144 25 1 10 8 false ≡ Some (record small {
   cols = 2;
   rows = 2;
@@ -51,6 +52,7 @@ four_tiles : grid 7 160 144 25 1 10 8 false ≡ Some (record small {
 unfolding rate_log2 tile_width least tile_log2
 four_tiles = refl
 
+-- The greatest frame has 16 columns and 32 rows of tiles where none are asked for.
 greatest_frame : shape (grid 7 65536 65536 25 1 0 0 false) ≡ 16 ∷ 32 ∷ 32 ∷ 16 ∷ []
 unfolding rate_log2 tile_width least tile_log2
 greatest_frame = refl
@@ -65,26 +67,32 @@ even_width : shape (grid 6 192 64 25 1 2 0 true) ≡ 2 ∷ 1 ∷ 2 ∷ 1 ∷ []
 unfolding rate_log2 tile_width least tile_log2
 even_width = refl
 
--- no rows of tiles can meet the rate
+-- a frame rate that no rows of tiles can meet has no grid
 too_fast : grid 6 8 8 10000000 1 0 0 false ≡ None
 unfolding rate_log2 tile_width least tile_log2
 too_fast = refl
 
+-- A frame rate with denominator 0 has no grid.
 no_rate : grid 6 8 8 25 0 0 0 false ≡ None
 unfolding rate_log2 tile_width least tile_log2
 no_rate = refl
 
+-- The luma samples of the last tile's view, rounded up past the frame.
 last_samples : tile_samples small 8 ≡ rect 128 128 64 64
 last_samples = refl
 
+-- The chroma samples of the last tile's view at 4:2:0.
 last_chroma : tile_plane small 1 1 8 ≡ rect 64 64 32 32
 last_chroma = refl
 
+-- The blocks of the tile at the right end, cut to the table.
 right_blocks : tile_blocks small 2 ≡ rect 32 0 8 16
 right_blocks = refl
 
+-- The blocks of the tile at the lower end, cut to the table.
 lower_blocks : tile_blocks small 6 ≡ rect 0 32 16 4
 lower_blocks = refl
 
+-- The blocks of the last tile, cut to the table on both sides.
 last_blocks : tile_blocks small 8 ≡ rect 32 32 8 4
 last_blocks = refl

@@ -17,7 +17,7 @@ shifted-one k h = one_shl k 64 h
 pub parts_hold : (r d : ℕ) → 0 < d → (r ≤ div_ceil r d * d) × (div_ceil r d * d < r + d)
 parts_hold r d h = div_ceil_times r d h
 
--- fewer parts do not
+-- fewer parts than the rounded quotient don't hold the whole
 pub fewer_do_not : (r d n : ℕ) → 0 < d → n < div_ceil r d → n * d < r
 fewer_do_not r d n h l =
     let held = parts_hold r d h in
@@ -50,14 +50,16 @@ pub record BlockSizes (s : ℕ) : Type 0 where
   pub width : (0 < 4096 / 2 ^ s) × (4096 / 2 ^ s < 2 ^ 24)
   pub area : (0 < 4096 * 2304 / 2 ^ (2 * s)) × (4096 * 2304 / 2 ^ (2 * s) < 2 ^ 24)
 
+-- The limits on superblocks hold for both sides that a superblock may have.
 block_sizes_of : (s : ℕ) → (s ≡ 6) ⊎ (s ≡ 7) → BlockSizes s
 block_sizes_of s (inl e) = subst BlockSizes (sym e) (record { width = (omega arith, omega arith); area = (omega arith, omega arith) })
 block_sizes_of s (inr e) = subst BlockSizes (sym e) (record { width = (omega arith, omega arith); area = (omega arith, omega arith) })
 
+-- The limits on superblocks hold for a side of 2^6 or 2^7.
 pub block_sizes : (s : ℕ) → 6 ≤ s → s ≤ 7 → BlockSizes s
 block_sizes s low high = block_sizes_of s (side_cases s low high)
 
--- at most 2 ^ 6 columns or rows
+-- a frame has at most 2^6 columns or rows of tiles
 pub max_count_log2-le : (n : ℕ) → max_count_log2 n ≤ 6
 max_count_log2-le n = tile_log2-le 1 (min n 64) 6 (omega arith)
 
@@ -69,10 +71,12 @@ reaches_more n m more h (inl l) =
     absurd (omega arith)
 reaches_more n m more h (inr g) = g
 
+-- An alternative holds the other way round.
 turned : {A B : Type 0} → A ⊎ B → B ⊎ A
 turned (inl a) = inr a
 turned (inr b) = inl b
 
+-- A frame needs no more columns of tiles than it may have, whether or not it fits in one.
 wide_or_not : (size n : ℕ) → 32 ≤ size → size ≤ 64 → n ≤ 1024 → (n ≤ size) ⊎ (size < n) → tile_log2 size n ≤ max_count_log2 n
 wide_or_not size n low high few (inl l) = let least = tile_log2-le size n 0 (omega arith) in omega arith
 wide_or_not size n low high few (inr g) =
@@ -81,10 +85,12 @@ wide_or_not size n low high few (inr g) =
     let most = reaches_more (min n 64) (max_count_log2 n) (omega arith) (tile_log2_is 1 (min n 64) (omega arith)) (cases_lt (max_count_log2 n) 5) in
     omega arith
 
+-- The widest tile has 32 to 64 superblocks.
 tile_widths : (s : ℕ) → (s ≡ 6) ⊎ (s ≡ 7) → (32 ≤ 4096 / 2 ^ s) × (4096 / 2 ^ s ≤ 64)
 tile_widths s (inl e) = subst (λ (x : ℕ). (32 ≤ 4096 / 2 ^ x) × (4096 / 2 ^ x ≤ 64)) (sym e) (omega arith, omega arith)
 tile_widths s (inr e) = subst (λ (x : ℕ). (32 ≤ 4096 / 2 ^ x) × (4096 / 2 ^ x ≤ 64)) (sym e) (omega arith, omega arith)
 
+-- The fewest columns that a frame needs are no more than it may have.
 pub min_cols_log2-le : (s n : ℕ) → 6 ≤ s → s ≤ 7 → n ≤ 1024 → min_cols_log2 s n ≤ max_count_log2 n
 min_cols_log2-le s n low high few =
     let size = tile_widths s (side_cases s low high) in
@@ -97,9 +103,11 @@ div_ceil-le n d h =
     let whole : n / d ≤ n / d * d = le-mul_of_pos_right (n / d) h in
     omega arith
 
+-- A quotient that is rounded up is positive where both numbers are.
 pub div_ceil-pos : (n d : ℕ) → 0 < n → 0 < d → 0 < div_ceil n d
 div_ceil-pos n d some h = grind (arith, common_steps)
 
+-- A frame's side has at most 1024 superblocks.
 sb_count : (s side : ℕ) → (s ≡ 6) ⊎ (s ≡ 7) → side ≤ 65536 → div_ceil side (2 ^ s) ≤ 1024
 sb_count s side (inl e) most = subst (λ (x : ℕ). div_ceil side (2 ^ x) ≤ 1024) (sym e) (omega arith)
 sb_count s side (inr e) most = subst (λ (x : ℕ). div_ceil side (2 ^ x) ≤ 1024) (sym e) (omega arith)

@@ -8,16 +8,17 @@ use Rattle.av1_tiling.specs.Grid.{round_up, clamp, is_side, is_frame, width_of, 
 use Rattle.av1_tiling.specs.declared.tiling_error.TilingError.{TilingError}
 use Rattle.av1_tiling.specs.declared.tiling_info.TilingInfo.{TilingInfo}
 
--- a frame of superblocks of side 64
+-- a frame with superblocks of 64 samples and sides in range passes the test
 pub is_frame-true : (s width height den : ℕ) → s ≡ 6 → is_side width ≡ true → is_side height ≡ true → 0 < den → is_frame s width height den ≡ true
 is_frame-true s width height den e wide high some =
     and_from (eqb s 6 || eqb s 7) (is_side width && (is_side height && ltb 0 den)) (or_left (eqb s 6) (eqb s 7) (eq-eqb s 6 e))
     (and_from (is_side width) (is_side height && ltb 0 den) wide (and_from (is_side height) (ltb 0 den) high (lt-ltb 0 den some)))
 
+-- Both ways to round up to a multiple of 8 agree.
 pub next_multiple_of-eight : (n : ℕ) → next_multiple_of n 8 ≡ round_up n 8
 next_multiple_of-eight n = omega arith
 
--- either order of the two cuts
+-- limits may be applied in either order
 pub clamp_either : (v low high : ℕ) → low ≤ high → max low (min v high) ≡ clamp v low high
 clamp_either v low high ordered = omega arith
 
@@ -35,7 +36,7 @@ pub record Columns (s width height num den target_cols : ℕ) (is_422 : Bool) (w
   pub count_log2 : cols_log2 ≡ tile_log2 1 cols
   pub rate : rate_rows ≡ max min_tiles (rate_log2 (w * h) num den) - cols_log2
 
--- too many rows
+-- a frame that needs too many rows of tiles has no grid
 pub grid-none : (s width height num den target_cols target_rows : ℕ) (is_422 : Bool) (w h sb_cols sb_rows min_cols max_cols min_tiles width_sb cols cols_log2 rate_rows max_rows : ℕ)
     → is_frame s width height den ≡ true
     → Columns s width height num den target_cols is_422 w h sb_cols sb_rows min_cols max_cols min_tiles width_sb cols cols_log2 rate_rows
@@ -47,13 +48,13 @@ grid-none s width height num den target_cols target_rows is_422 w h sb_cols sb_r
     let test' = rw (e, c.rate, c.count_log2, c.count, c.tile_wide, c.least_tiles, c.most_cols, c.least_cols, c.sb_high, c.sb_wide, c.high, c.wide) at test in
     cond-true (is_frame s width height den) _ None frame ∙ cond-true _ None _ test'
 
--- both tests passed
+-- a grid that passes both tests is given
 chosen : {A : Type 0} (framed many : Bool) (x : A) → framed ≡ true → many ≡ false → cond framed (cond many None (Some x)) None ≡ Some x
 chosen true false x e f = refl
 chosen true true x e f = absurd (true≢false f)
 chosen false many x e f = absurd (false≢true e)
 
--- the grid
+-- the grid that is computed is the grid of the definition
 pub grid-some : (s width height num den target_cols target_rows : ℕ) (is_422 : Bool) (w h sb_cols sb_rows min_cols max_cols min_tiles width_sb cols cols_log2 rate_rows max_rows min_rows rows_log2 tile_height rows : ℕ)
     → is_frame s width height den ≡ true
     → Columns s width height num den target_cols is_422 w h sb_cols sb_rows min_cols max_cols min_tiles width_sb cols cols_log2 rate_rows
@@ -85,14 +86,16 @@ grid-some s width height num den target_cols target_rows is_422 w h sb_cols sb_r
     rw (e_count, e_height, e_rows, e_min, e, c.rate, c.count_log2, c.count, c.tile_wide, c.least_tiles, c.most_cols, c.least_cols, c.sb_high, c.sb_wide, c.high, c.wide)
     (chosen _ _ _ frame test')
 
+-- A tiling for superblocks of 64 samples can't be missing and have other superblocks.
 neither : (s : ℕ) (g : Option TilingInfo) (t : TilingInfo) → s ≡ 6 → g ≡ Some t → (s ≢ 6) ⊎ (g ≡ None) → ⊥
 neither s g t six some (inl other) = other six
 neither s g t six some (inr none) = let e : None ≡ Some t = sym none ∙ some in cc
 
+-- A tiling isn't an error.
 ok_no_err : (t : TilingInfo) (e : TilingError) → ◌≡◌ {A = Result TilingInfo TilingError} (Ok t) (Err e) → ⊥
 ok_no_err t e same = cc
 
--- where there is a grid, it is no error
+-- a frame that has a grid gets no error
 pub ok_only : (s : ℕ) (g : Option TilingInfo) (t : TilingInfo) (e : TilingError) → s ≡ 6 → g ≡ Some t
     → (◌≡◌ {A = Result TilingInfo TilingError} (Ok t) (Err e) → (s ≢ 6) ⊎ (g ≡ None))
     × ((s ≢ 6) ⊎ (g ≡ None) → ◌≡◌ {A = Result TilingInfo TilingError} (Ok t) (Err e))

@@ -23,6 +23,7 @@ pub record Divides (s : ℕ) : Type 0 where
   pub plane : (dec : ℕ) → dec ≤ 1 → (2 ^ s / 2 ^ dec * 2 ^ dec ≡ 2 ^ s) × (0 < 2 ^ s / 2 ^ dec)
   pub block : (2 ^ s / 4 * 4 ≡ 2 ^ s) × (0 < 2 ^ s / 4)
 
+-- A decimation is 0 or 1.
 shift_cases : (dec : ℕ) → dec ≤ 1 → (dec ≡ 0) ⊎ (dec ≡ 1)
 shift_cases dec l = grind arith
 
@@ -31,19 +32,24 @@ even_whole : (n dec : ℕ) → (n / 2 * 2 ≡ n) × (0 < n / 2) → (dec ≡ 0) 
 even_whole n dec even (inl e) = subst (λ (x : ℕ). (n / 2 ^ x * 2 ^ x ≡ n) × (0 < n / 2 ^ x)) (sym e) (let h = even.0 in let some = even.1 in (omega arith, omega arith))
 even_whole n dec even (inr e) = subst (λ (x : ℕ). (n / 2 ^ x * 2 ^ x ≡ n) × (0 < n / 2 ^ x)) (sym e) even
 
+-- A superblock of either side has whole blocks.
 divides : (s : ℕ) → (s ≡ 6) ⊎ (s ≡ 7) → Divides s
 divides s (inl e) = subst Divides (sym e) (record { plane = λ dec l. even_whole 64 dec (refl, omega arith) (shift_cases dec l); block = (refl, omega arith) })
 divides s (inr e) = subst Divides (sym e) (record { plane = λ dec l. even_whole 128 dec (refl, omega arith) (shift_cases dec l); block = (refl, omega arith) })
 
+-- The tiles of a tiling are at least one superblock high.
 pub tile_high-pos : (t : TilingInfo) → IsTiling t → 0 < t.tile_height_sb
 tile_high-pos t h = subst (λ (x : ℕ). 0 < x) (sym h.tile_high) (div_ceil-pos (superblock_rows t) (2 ^ t.tile_rows_log2) (div_ceil-pos t.frame_height (superblock_side t) h.high.0 (pow_pos t.sb_size_log2)) (pow_pos t.tile_rows_log2))
 
+-- A tiling has at least one column of tiles.
 pub cols-pos : (t : TilingInfo) → IsTiling t → 0 < t.cols
 cols-pos t h = subst (λ (x : ℕ). 0 < x) (sym h.cols) (div_ceil-pos (superblock_columns t) t.tile_width_sb (div_ceil-pos t.frame_width (superblock_side t) h.wide.0 (pow_pos t.sb_size_log2)) h.tile_wide)
 
+-- A tiling has at least one row of tiles.
 pub rows-pos : (t : TilingInfo) → IsTiling t → 0 < t.rows
 rows-pos t h = subst (λ (x : ℕ). 0 < x) (sym h.rows) (div_ceil-pos (superblock_rows t) t.tile_height_sb (div_ceil-pos t.frame_height (superblock_side t) h.high.0 (pow_pos t.sb_size_log2)) (tile_high-pos t h))
 
+-- The tiles of a tiling cut each plane into parts.
 pub cuts_planes : (t : TilingInfo) → IsTiling t → CutsPlanes t
 cuts_planes t h xdec ydec lx ly =
     let side = superblock_side t in
@@ -65,6 +71,7 @@ block_line w frame side tiles some whole e =
     subst (λ (n : ℕ). IsCut (λ i. i * w * (side / 4)) (λ i. min (w * (side / 4)) (frame / 4 - i * w * (side / 4))) n (frame / 4))
     (ap (λ (x : ℕ). div_ceil (div_ceil frame x) w) whole.0 ∙ sym e) (block_cut w frame (side / 4) some whole.1)
 
+-- The tiles of a tiling cut the table of blocks into parts.
 pub cuts_blocks : (t : TilingInfo) → IsTiling t → CutsBlocks t
 cuts_blocks t h =
     let side = superblock_side t in
@@ -75,7 +82,7 @@ cuts_blocks t h =
     (block_line t.tile_width_sb t.frame_width side t.cols h.tile_wide whole h.cols)
     (block_line t.tile_height_sb t.frame_height side t.rows (tile_high-pos t h) whole h.rows)
 
--- a quarter of a tile's side
+-- a quarter of a tile's side is the tile's side in blocks
 quarter : (w frame x s : ℕ) → (s ≡ 6) ⊎ (s ≡ 7) → min (w * 2 ^ s) (frame - x * 2 ^ s) / 4 ≡ min (w * (2 ^ s / 4)) (frame / 4 - x * (2 ^ s / 4))
 quarter w frame x s (inl e) = subst (λ (k : ℕ). min (w * 2 ^ k) (frame - x * 2 ^ k) / 4 ≡ min (w * (2 ^ k / 4)) (frame / 4 - x * (2 ^ k / 4))) (sym e) (omega arith)
 quarter w frame x s (inr e) = subst (λ (k : ℕ). min (w * 2 ^ k) (frame - x * 2 ^ k) / 4 ≡ min (w * (2 ^ k / 4)) (frame / 4 - x * (2 ^ k / 4))) (sym e) (omega arith)
@@ -87,6 +94,7 @@ motion_is_blocks t h n =
     let height = quarter t.tile_height_sb t.frame_height (tile_superblock t n).1 t.sb_size_log2 h.side in
     λ i. record { x = (tile_blocks t n).x; y = (tile_blocks t n).y; width = width i; height = height i }
 
+-- The tiles of a tiling cut each table of motion records into parts.
 pub cuts_motion : (t : TilingInfo) → IsTiling t → CutsMotion t
 cuts_motion t h =
     subst (λ (rect : ℕ → TileRect). Partitions rect (t.cols * t.rows) (block_columns t) (block_rows t)) (λ i n. sym (motion_is_blocks t h n) i) (cuts_blocks t h)
@@ -98,6 +106,7 @@ unit_line shift units w n tiles some e fits =
     subst (λ (x : ℕ). IsCut (λ i. min (i * w / 2 ^ shift) units) (λ i. min (div_ceil (min w (n - i * w)) (2 ^ shift)) (units - min (i * w / 2 ^ shift) units)) x units) (sym e)
     (unit_cut shift units w n some (subst (λ (x : ℕ). FitsUnits shift units x w n) e fits))
 
+-- The tiles of a tiling cut a table of restoration units that fits them into parts.
 pub cuts_units : (t : TilingInfo) → IsTiling t → CutsUnits t
 cuts_units t h h_shift v_shift columns rows fits_x fits_y =
     let w = t.tile_width_sb in
@@ -161,6 +170,7 @@ rows_log2_is n r some most = record {
         let power = shifted-one j (omega arith) in
         omega arith
 
+-- A tiling's logarithms are those of its numbers of columns and rows.
 pub counts_by_log2 : (t : TilingInfo) → IsTiling t → CountsByLog2 t
 counts_by_log2 t h = (sym h.cols_log2, sym (tile_log2-from 1 t.rows t.tile_rows_log2 rows))
   where
@@ -170,7 +180,7 @@ counts_by_log2 t h = (sym h.cols_log2, sym (tile_log2-from 1 t.rows t.tile_rows_
     rows : IsTileLog2 1 t.rows t.tile_rows_log2
     rows = subst (λ (x : ℕ). IsTileLog2 1 x t.tile_rows_log2) (sym (h.rows ∙ ap (div_ceil (superblock_rows t)) h.tile_high)) (rows_log2_is (superblock_rows t) t.tile_rows_log2 some h.rows_log2)
 
--- there are at most 64 rows
+-- a tiling has at most 64 rows
 pub rows-le : (t : TilingInfo) → IsTiling t → t.rows ≤ 64
 rows-le t h =
     let some = div_ceil-pos t.frame_height (superblock_side t) h.high.0 (pow_pos t.sb_size_log2) in

@@ -5,6 +5,7 @@ use Rattle.av1_tiling.specs.Grid.{grid, superblock_log2}
 use Rattle.av1_tiling.proofs.Inside.{grid_takes}
 use Rattle.av1_tiling.proofs.UnitTiles.{frame_units}
 
+-- A frame's tiling fits a state and a block table that are made for the frame.
 pub tiling_of : (limit : ℕ) (p : Parameters) (s : State) (cols rows : ℕ) → IsFrame limit p → IsStateFor p s → cols ≡ p.w_in_b → rows ≡ p.h_in_b → IsTilingOf p.sequence.tiling s cols rows
 tiling_of limit p s cols rows frame state wide high =
     let t = frame.tiling in

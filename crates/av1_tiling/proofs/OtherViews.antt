@@ -38,7 +38,7 @@ cut_stays table entries cols one other inside inside' apart =
     length-cut_of table cols other.x other.y other.width other.height inside' ∙ mul_comm other.height other.width in
     ap (λ t. cut_at t cols other) (sym turned) ∙ cut_of_put_is_put written before cols other lies area
 
--- so a part stays where another part was put back
+-- the part of a tile stays where the part of another tile was put back
 part_stays : {E : Type 0} (table : List E) (cols : ℕ) (one other : TileRect) (part : Part E) → IsTablePart (length table) cols (part_at table cols one) → IsTablePart (length table) cols (part_at table cols other)
     → AreApart one other → SameRect (part_at table cols one) part → part_at (put table part) cols other ≡ part_at table cols other
 part_stays table cols one other part of of' apart same =
@@ -49,7 +49,7 @@ part_stays table cols one other part of of' apart same =
     let stays : cut_at (put table part) cols other ≡ cut_at table cols other = ap (λ t. cut_at t cols other) put_is ∙ cut_stays table entries cols one other of.lies of'.lies apart in
     λ i. record { rect = other; table_cols = cols; entries = stays i }
 
--- so do all parts of motion tables
+-- the motion parts of a tile stay where the parts of another tile were put back
 motion_stays : (one other : TileRect) → AreApart one other → (tables : List (Rows MEStats)) (parts : List (Part MEStats))
     → All (λ m. IsTablePart (length m.entries) m.cols (part_at m.entries m.cols one)) tables → All (λ m. IsTablePart (length m.entries) m.cols (part_at m.entries m.cols other)) tables
     → AllZip SameRect (motion_parts tables one) parts → motion_parts (put_motion tables parts) other ≡ motion_parts tables other
@@ -74,6 +74,7 @@ in_either_order count rect apart m n l k other = elim (cases_order m n) [
   | inr (inr after) ↦ λ u v p q. apart n m after l u v q p
 ]
 
+-- What is written through the view of one tile changes the view of no other.
 pub others_stay : OthersStay
 others_stay t s blocks cols rows m n written made full long l k other shape =
     let count = t.cols * t.rows in

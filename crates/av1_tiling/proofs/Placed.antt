@@ -35,7 +35,7 @@ same_entry : {E : Type 0} (xs ys : List E) (i j : ℕ) → i < length xs → j <
 same_entry [] ys i j l m same = absurd (omega arith)
 same_entry (x ∷ xs) ys i j l m same = slice_get-get_or (x ∷ xs) i x l ∙ (ap (λ e. Some e) (same x) ∙ sym (slice_get-get_or ys j x m))
 
--- one place of two tables of one length
+-- tables of one length with equal entries at a place agree there
 same_place : {E : Type 0} (xs ys : List E) (k : ℕ) → length xs ≡ length ys → ((d : E) → get_or xs k d ≡ get_or ys k d) → slice_get xs k ≡ slice_get ys k
 same_place xs ys k long same = elim (cases_lt k (length xs)) [
   | inl l ↦ same_entry xs ys k k l (omega arith) same
@@ -58,26 +58,32 @@ inside_or_not r u v = elim (cases_lt u r.x) [
   ]
 ]
 
+-- A place that lies left, right, above or below a rectangle isn't inside it.
 beside : (r : TileRect) (u v : ℕ) → (u < r.x) ⊎ ((r.x + r.width ≤ u) ⊎ ((v < r.y) ⊎ (r.y + r.height ≤ v))) → ¬ IsInside r u v
 beside r u v (inl left) h = let l = h.left in omega arith
 beside r u v (inr (inl right)) h = let l = h.right in omega arith
 beside r u v (inr (inr (inl above))) h = let l = h.top in omega arith
 beside r u v (inr (inr (inr under))) h = let l = h.bottom in omega arith
 
+-- Each entry of a table stands inside a part's rectangle or outside it.
 covered_or_not : {E : Type 0} (cols k : ℕ) (part : Part E) → IsCovered cols k part ⊎ (¬ IsCovered cols k part)
 covered_or_not cols k part = elim (inside_or_not part.rect (k % cols) (k / cols)) [ inl a ↦ inl a | inr b ↦ inr (beside part.rect (k % cols) (k / cols) b) ]
 
--- what one part leaves
+-- A table with one part put back.
 module _ {E : Type 0} (cols : ℕ) (table : List E) (part : Part E) (of : IsTablePart (length table) cols part) where
+  -- The part's rectangle lies in the table.
   lies : LiesIn (length table) cols part.rect.x part.rect.y part.rect.width part.rect.height
   lies = subst (λ (n : ℕ). LiesIn (length table) n part.rect.x part.rect.y part.rect.width part.rect.height) of.table_cols of.lies
 
+  -- Putting the part back writes its entries into its rectangle.
   put_is : put table part ≡ with_cut table cols part.rect.x part.rect.y part.rect.width part.rect.height part.entries
   put_is = ap (λ (n : ℕ). with_cut table n part.rect.x part.rect.y part.rect.width part.rect.height part.entries) of.table_cols
 
+  -- Putting a part back keeps the table's length.
   pub length-put : length (put table part) ≡ length table
   length-put = ap length put_is ∙ length-with_cut table cols part.rect.x part.rect.y part.rect.width part.rect.height part.entries lies
 
+  -- A place inside the part's rectangle has the part's entry.
   pub put_inside : (k : ℕ) → IsCovered cols k part → slice_get (put table part) k ≡ entry_in cols k part
   put_inside k h =
       let rect = part.rect in
@@ -100,6 +106,7 @@ module _ {E : Type 0} (cols : ℕ) (table : List E) (part : Part E) (of : IsTabl
       ∙ (ap (λ (n : ℕ). get_or (with_cut table cols rect.x rect.y rect.width rect.height part.entries) n d) (sym place)
       ∙ with_cut_inside table cols rect.x rect.y rect.width part.entries d rect.height i j lies (omega arith) (omega arith) (omega arith)))
 
+  -- A place outside the part's rectangle stays as it was.
   pub put_beside : (k : ℕ) → ¬ IsCovered cols k part → slice_get (put table part) k ≡ slice_get table k
   put_beside k h =
       let rect = part.rect in
@@ -133,11 +140,11 @@ one_entry cols k (part ∷ parts) x y old a b c d = elim (covered_or_not cols k 
       (λ out. c (All-cons (λ p. ¬ IsCovered cols k p) part parts h out)) (λ out. d (All-cons (λ p. ¬ IsCovered cols k p) part parts h out))
 ]
 
--- two parts that cover a place have one entry there
+-- two parts that cover a place have equal entries there
 abbrev Agree : {E : Type 0} → (cols k : ℕ) → Part E → Part E → Type 0
 Agree cols k p q = IsCovered cols k p → IsCovered cols k q → entry_in cols k p ≡ entry_in cols k q
 
--- any two of these parts
+-- any two parts of a list that cover a place have equal entries there
 AgreeAt : {E : Type 0} → (cols k : ℕ) → List (Part E) → Type 0
 AgreeAt cols k parts = All (λ p. All (Agree cols k p) parts) parts
 
@@ -150,7 +157,7 @@ agree_apart cols parts apart k i d l j e m = elim (cases_order i j) [
   | inr (inr after) ↦ λ p q. absurd (apart j i e after l (k % cols) (k / cols) q (subst (IsCovered cols k) (get_or_default parts i d e l) p))
 ]
 
--- in every order
+-- parts that agree at a place agree there in every order
 agree_moved : {E : Type 0} (cols k : ℕ) (parts other : List (Part E)) → IsPermutation parts other → AgreeAt cols k parts → AgreeAt cols k other
 unfolding AgreeAt
 agree_moved cols k parts other moved agree =
@@ -177,16 +184,17 @@ agree_has cols (part ∷ parts) table each agree =
           ∙ put_beside cols table part of k (All-head (λ p. ¬ IsCovered cols k p) part parts out);
     }
 
--- a list of parts with no place in common
+-- parts with no place in common are all in the table once they are put back
 pub has_parts : {E : Type 0} (cols : ℕ) (parts : List (Part E)) (table : List E) → All (IsTablePart (length table) cols) parts → ArePartsApart parts → HasParts cols parts table (put_all table parts)
 has_parts cols parts table each apart = agree_has cols parts table each (agree_apart cols parts apart)
 
+-- A table has at most one list of entries that has these parts.
 pub parts_unique : {E : Type 0} (cols : ℕ) (parts : List (Part E)) (old new other : List E) → HasParts cols parts old new → HasParts cols parts old other → new ≡ other
 parts_unique cols parts old new other a b =
     same_list new other (a.length ∙ sym b.length)
     (λ k. one_entry cols k parts (slice_get new k) (slice_get other k) (slice_get old k) (a.inside k) (b.inside k) (a.elsewhere k) (b.elsewhere k))
 
--- parts in another order are the parts of the same tables
+-- parts in another order are parts of the tables that they were parts of
 moved_parts : {E : Type 0} (cols : ℕ) (parts other : List (Part E)) (old new : List E) → IsPermutation parts other → HasParts cols parts old new → HasParts cols other old new
 moved_parts cols parts other old new moved has = record {
   length = has.length;
@@ -194,20 +202,20 @@ moved_parts cols parts other old new moved has = record {
   elsewhere = λ k out. has.elsewhere k (All-permutation (λ p. ¬ IsCovered cols k p) other parts (IsPermutation-sym parts other moved) out);
 }
 
--- so putting them back in any order gives one table
+-- putting parts back in any order gives one table
 pub puts_in_any_order : {E : Type 0} → PutsInAnyOrder E
 puts_in_any_order cols parts other table each apart moved =
     parts_unique cols other table (put_all table parts) (put_all table other)
     (moved_parts cols parts other table (put_all table parts) moved (has_parts cols parts table each apart))
     (agree_has cols other table (All-permutation (IsTablePart (length table) cols) parts other moved each) (λ k. agree_moved cols k parts other moved (agree_apart cols parts apart k)))
 
--- the parts of views that lie in tables
+-- the parts of views that lie in tables belong to the table
 each_of : {E : Type 0} (tables : Tables) (part : View → Part E) (m c : ℕ) → ((v : View) → ViewLies tables v → IsTablePart m c (part v)) → (views : List View) → All (ViewLies tables) views → All (IsTablePart m c) (map part views)
 each_of tables part m c of [] each = All-nil (IsTablePart m c)
 each_of tables part m c of (v ∷ views) each =
     All-cons (IsTablePart m c) (part v) (map part views) (of v (All-head (ViewLies tables) v views each)) (each_of tables part m c of views (All-tail (ViewLies tables) v views each))
 
--- parts of tables lie in them
+-- motion tables with their parts put back have the sides that they had
 pub zip_lies : (tables : List (Rows MEStats)) (parts : List (Part MEStats)) → AllZip (λ t part. IsTablePart (length t.entries) t.cols part) tables parts
     → AllZip (λ t part. PartLies (length t.entries) part) tables parts
 zip_lies [] [] of = tt
@@ -227,7 +235,7 @@ put_motion_lies (t ∷ tables) (p ∷ parts) (q ∷ others) of of' = (
   put_motion_lies tables parts others of.1 of'.1,
 )
 
--- so have all tables with a view put back
+-- a view belongs to tables into which another view was put back
 pub put_view_lies : (tables : Tables) (v w : View) → ViewLies tables v → ViewLies tables w → ViewLies (put_view tables v) w
 put_view_lies tables v w a b = record {
   y = subst (λ n. IsTablePart n tables.rec.y.cfg.stride w.ts.rec.y) (sym (length-put tables.rec.y.cfg.stride tables.rec.y.samples v.ts.rec.y a.y)) b.y;
@@ -240,14 +248,14 @@ put_view_lies tables v w a b = record {
   blocks = subst (λ n. IsTablePart n tables.blocks.cols w.blocks) (sym (length-put tables.blocks.cols tables.blocks.entries v.blocks a.blocks)) b.blocks;
 }
 
--- what holds of two lists place by place
+-- what holds of two lists place by place holds at each place
 pub zip_at : {A B : Type 0} (R : A → B → Type 0) (xs : List A) (ys : List B) (i : ℕ) (d : A) (e : B) → AllZip R xs ys → i < length xs → R (get_or xs i d) (get_or ys i e)
 zip_at R [] ys i d e zip l = absurd (omega arith)
 zip_at R (x ∷ xs) [] i d e zip l = absurd zip
 zip_at R (x ∷ xs) (y ∷ ys) zero d e zip l = zip.0
 zip_at R (x ∷ xs) (y ∷ ys) (suc i) d e zip l = zip_at R xs ys i d e zip.1 (omega arith)
 
--- one table with its part
+-- a motion table with its part put back, by its number
 put_motion_at : (tables : List (Rows MEStats)) (parts : List (Part MEStats)) (i : ℕ) (d : Rows MEStats) (e : Part MEStats) → length parts ≡ length tables → i < length tables
     → get_or (put_motion tables parts) i d ≡ put_in (get_or tables i d) (get_or parts i e)
 unfolding put_motion
@@ -260,12 +268,13 @@ put_motion_at (table ∷ tables) (part ∷ parts) (suc i) d e same l = put_motio
 HasAll : ℕ → View → Type 0
 HasAll n v = length v.ts.me_stats ≡ n
 
+-- Putting views back keeps the number of motion tables.
 length-coded_motion : (tables : List (Rows MEStats)) (views : List View) → length (coded_motion tables views) ≡ length tables
 unfolding coded_motion
 length-coded_motion tables [] = refl
 length-coded_motion tables (v ∷ views) = length-coded_motion (put_motion tables v.ts.me_stats) views ∙ length-put_motion tables v.ts.me_stats
 
--- one table with the parts of all views
+-- a motion table with the parts of all views put back, by its number
 coded_motion_at : (tables : List (Rows MEStats)) (views : List View) (i : ℕ) (d : Rows MEStats) → All (HasAll (length tables)) views → i < length tables
     → get_or (coded_motion tables views) i d ≡ record (get_or tables i d) { entries = put_all (get_or tables i d).entries (map (motion_part i) views) }
 unfolding coded_motion put_all HasAll
@@ -277,6 +286,7 @@ coded_motion_at tables (v ∷ views) i d each l =
     ∙ ap (λ (t : Rows MEStats). record t { entries = put_all t.entries (map (motion_part i) views) }) first
 
 module _ (tables : Tables) (views : List View) (each : All (ViewLies tables) views) where
+  -- Each view has a part of every motion table.
   have_all : All (HasAll (length tables.motion)) views
   unfolding HasAll
   have_all k d l = AllZip-long (λ t part. IsTablePart (length t.entries) t.cols part) tables.motion (get_or views k d).ts.me_stats (each k d l).motion
@@ -321,6 +331,7 @@ same_plane parts old new other a b = λ i. record {
   samples = parts_unique old.cfg.stride parts old.samples new.samples other.samples a.samples b.samples i;
 }
 
+-- Two tables that are coded from one table by the same parts have equal entries.
 same_table : {E : Type 0} (parts : List (Part E)) (old new other : Rows E) → IsCodedTable parts old new → IsCodedTable parts old other → new ≡ other
 same_table parts old new other a b = λ i. record {
   cols = (a.cols ∙ sym b.cols) i;
@@ -328,6 +339,7 @@ same_table parts old new other a b = λ i. record {
   entries = parts_unique old.cols parts old.entries new.entries other.entries a.entries b.entries i;
 }
 
+-- Two tables of units that are coded from one table by the same parts are equal.
 same_units : (parts : List (Part RestorationUnit)) (old new other : Units) → IsCodedUnitTable parts old new → IsCodedUnitTable parts old other → new ≡ other
 same_units parts old new other a b = λ i. record {
   cfg = (a.cfg ∙ sym b.cfg) i;
@@ -336,13 +348,13 @@ same_units parts old new other a b = λ i. record {
   entries = parts_unique old.cols parts old.entries new.entries other.entries a.entries b.entries i;
 }
 
--- lists of one length with the same element at each place
+-- lists of one length with equal elements at each place are equal
 same_all : {E : Type 0} (xs ys : List E) → length xs ≡ length ys → ((k : ℕ) (d : E) → k < length xs → get_or xs k d ≡ get_or ys k d) → xs ≡ ys
 same_all [] [] long same = refl
 same_all [] (y ∷ ys) long same = absurd (omega arith)
 same_all (x ∷ xs) ys long same = ext_get_or x (x ∷ xs) ys long (λ k l. same k x l)
 
--- so tables that have each view's content are those that putting the views back makes
+-- two results of coding the tables by the same views are equal
 pub coded_unique : (views : List View) (old new other : Tables) → AreCoded views old new → AreCoded views old other → new ≡ other
 coded_unique views old new other a b =
     let y = same_plane (map (λ v. v.ts.rec.y) views) old.rec.y new.rec.y other.rec.y a.rec.y b.rec.y in
@@ -357,5 +369,6 @@ coded_unique views old new other a b =
     let blocks = same_table (map (λ v. v.blocks) views) old.blocks new.blocks other.blocks a.blocks b.blocks in
     λ i. record { rec = record { y = y i; u = u i; v = v i }; motion = motion i; units = record { y = y_units i; u = u_units i; v = v_units i }; blocks = blocks i }
 
+-- Tables that have each view's content are the tables with the views put back.
 pub coded_are : (views : List View) (old new : Tables) → All (ViewLies old) views → AreViewsApart views → AreCoded views old new → new ≡ coded_tables old views
 coded_are views old new each apart coded = coded_unique views old new (coded_tables old views) coded (coded_have old views each apart)

@@ -9,14 +9,14 @@ use Rattle.av1_tiling.proofs.GridFacts.{parts_hold, fewer_do_not}
 use Rattle.av1_tiling.proofs.Quotients.{div_ceil-le_of, div_ceil-part}
 use Rattle.av1_tiling.proofs.Cuts.{IsCut, even_cut, cut_like, one_cut}
 
--- n superblocks in tiles of w
+-- tiles of w superblocks cut n superblocks
 pub superblock_cut : (w n : ℕ) → 0 < w → IsCut (λ i. i * w) (λ i. min w (n - i * w)) (div_ceil n w) n
 superblock_cut w n some =
     cut_like (λ i. min (i * w) n) (λ i. min w (n - i * w)) (λ i. i * w) (λ i. min w (n - i * w)) (div_ceil n w) n
     (λ i l. let inside = fewer_do_not n w i some l in (omega arith, refl))
     (even_cut w n (div_ceil n w) some (parts_hold n w some).0)
 
--- parts as many times as long
+-- parts that are c times as long cut a line that is c times as long
 pub scaled_cut : (start size : ℕ → ℕ) (count whole c : ℕ) → 0 < c → IsCut start size count whole → IsCut (λ i. start i * c) (λ i. size i * c) count (whole * c)
 scaled_cut start size count whole c some cut = record {
   inside = λ i l. subst (λ (x : ℕ). x ≤ whole * c) (add-mul (start i) (size i) c) (mul-le-mul_right c (cut.inside i l));
@@ -100,6 +100,7 @@ aligned_cut q n side units some some_side covered =
         let few : div_ceil n side ≤ tiles * q = div_ceil-le_of n side (tiles * q) some_side (omega arith) in
         omega arith
 
+-- One tile alone has all units of a side.
 lone_cut : (w n side units : ℕ) → 0 < w → div_ceil n w ≡ 1 → units ≤ div_ceil n side
     → IsCut (λ i. min (i * w / side) units) (λ i. min (div_ceil (min w (n - i * w)) side) (units - min (i * w / side) units)) 1 units
 lone_cut w n side units some one covered =

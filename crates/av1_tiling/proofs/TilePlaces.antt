@@ -9,10 +9,11 @@ use Rattle.av1_tiling.proofs.GridFacts.{fewer_do_not}
 use Rattle.av1_tiling.proofs.TilingFacts.{IsTiling}
 use Rattle.av1_tiling.proofs.LawProofs.{cols-pos, tile_high-pos, rows-le}
 
--- the place of a part that a line has
+-- each part of a line begins inside the line
 line_begins : (w frame side tiles i : ℕ) → 0 < w → 0 < side → tiles ≡ div_ceil (div_ceil frame side) w → i < tiles → i * w * side < frame
 line_begins w frame side tiles i some some_side e l = fewer_do_not frame side (i * w) some_side (fewer_do_not (div_ceil frame side) w i some (subst (λ (x : ℕ). i < x) e l))
 
+-- The row of a tile is below the number of rows.
 row_below : (n cols rows : ℕ) → 0 < cols → n < cols * rows → n / cols < rows
 row_below n cols rows some l = div_below n cols rows some (subst (λ (x : ℕ). n < x) (mul_comm cols rows) l)
 
@@ -23,6 +24,7 @@ pub record LiesInside (t : TilingInfo) (n : ℕ) : Type 0 where
   pub columns : (tile_luma t n).x + (tile_luma t n).width ≤ t.frame_width
   pub rows : (tile_luma t n).y + (tile_luma t n).height ≤ t.frame_height
 
+-- The luma rectangle of each tile lies inside the frame.
 pub tile_luma-inside : (t : TilingInfo) (n : ℕ) → IsTiling t → n < t.cols * t.rows → LiesInside t n
 tile_luma-inside t n h l =
     let side = superblock_side t in
@@ -34,6 +36,6 @@ tile_luma-inside t n h l =
     let v : 0 < t.tile_height_sb * side = mul-lt 0 0 t.tile_height_sb side (tile_high-pos t h) some_side in
     record { wide = omega arith; high = omega arith; columns = omega arith; rows = omega arith }
 
--- there are at most 4096 tiles
+-- a tiling has at most 4096 tiles
 pub tile_count-le : (t : TilingInfo) → IsTiling t → t.cols * t.rows ≤ 64 * 64
 tile_count-le t h = mul-le t.cols t.rows 64 64 h.few_cols (rows-le t h)

@@ -18,16 +18,17 @@ even_zeros : (k n : ℕ) → n % 2 ≡ 0 → count_trailing_zeros (suc k) n ≡ 
 unfolding count_trailing_zeros
 even_zeros k n e = rw e refl
 
--- an odd number has none
+-- an odd number has no trailing zero
 odd_zeros : (k n : ℕ) → n % 2 ≡ 1 → count_trailing_zeros (suc k) n ≡ 0
 unfolding count_trailing_zeros
 odd_zeros k n e = rw e refl
 
+-- No trailing zeros are counted in no bits.
 no_zeros : (n : ℕ) → count_trailing_zeros zero n ≡ 0
 unfolding count_trailing_zeros
 no_zeros n = refl
 
--- a number is a multiple of the power of two of its zeros, and of each lower one
+-- a number is a multiple of each power of two up to its trailing zeros
 zeros_divide : (k n s : ℕ) → s ≤ count_trailing_zeros k n → (q : ℕ) × (n ≡ q * 2 ^ s)
 zeros_divide k n zero l = (n, omega arith)
 zeros_divide zero n (suc s) l = absurd (omega (arith, no_zeros n))
@@ -42,7 +43,7 @@ zeros_divide (suc k) n (suc s) l = elim (cases_lt 0 (n % 2)) [
       (half.0, whole ∙ (ap (λ (m : ℕ). m * 2) half.1 ∙ next))
 ]
 
--- so it leaves no rest
+-- a number has no rest by a power of two up to its trailing zeros
 pub zeros_align : (n s : ℕ) → s ≤ trailing_zeros w64 n → n % 2 ^ s ≡ 0
 zeros_align n s l =
     let parts = zeros_divide 64 n s l in
@@ -50,24 +51,24 @@ zeros_align n s l =
     let whole : parts.0 * 2 ^ s + 0 ≡ n = omega (arith, parts.1) in
     subst (λ (m : ℕ). m % 2 ^ s ≡ 0) whole rest
 
--- an even number has a zero
+-- an even number has a trailing zero
 pub even_has_zero : (n : ℕ) → n % 2 ≡ 0 → 1 ≤ trailing_zeros w64 n
 even_has_zero n e = omega (arith, even_zeros 63 n e)
 
 -- Sides of units.
 
--- the four sides that a unit can have
+-- a number is one of the four sides that a unit can have
 abbrev pub IsSide : ℕ → Type 0
 IsSide unit = (unit ≡ 32) ⊎ ((unit ≡ 64) ⊎ ((unit ≡ 128) ⊎ (unit ≡ 256)))
 
--- the lesser of two such sides is one
+-- the lesser of two sides of units is a side of a unit
 pub min_is : (a b : ℕ) → IsSide a → IsSide b → IsSide (min a b)
 min_is a b p q = elim (cases_lt a b) [
   | inl less ↦ let same : a ≡ min a b = omega arith in subst IsSide same p
   | inr more ↦ let same : b ≡ min a b = omega arith in subst IsSide same q
 ]
 
--- a superblock's side in a plane, doubled: such a side, or at least the largest
+-- a superblock's side in a plane, doubled some times, is a side of a unit or at least the largest
 doubled : (d z : ℕ) → d ≤ 1 → IsSide (64 / 2 ^ d * 2 ^ z) ⊎ (256 ≤ 64 / 2 ^ d * 2 ^ z)
 doubled zero zero l = inl (inr (inl refl))
 doubled zero (suc zero) l = inl (inr (inr (inl refl)))
@@ -78,13 +79,14 @@ doubled (suc zero) (suc (suc zero)) l = inl (inr (inr (inl refl)))
 doubled (suc zero) (suc (suc (suc z))) l = inr (let three : 3 ≤ suc (suc (suc z)) = omega arith in let more : 2 ^ 3 ≤ 2 ^ suc (suc (suc z)) = pow_mono three in omega arith)
 doubled (suc (suc d)) z l = absurd (omega arith)
 
+-- A unit has at most 256 samples a side.
 most_256 : (unit : ℕ) → IsSide unit → unit ≤ 256
 most_256 unit (inl e) = omega arith
 most_256 unit (inr (inl e)) = omega arith
 most_256 unit (inr (inr (inl e))) = omega arith
 most_256 unit (inr (inr (inr e))) = omega arith
 
--- a side kept to so many superblocks
+-- a unit's side kept to 2^z superblocks is a side of a unit
 pub kept_is : (unit d z : ℕ) → IsSide unit → d ≤ 1 → IsSide (min unit (64 / 2 ^ d * 2 ^ z))
 kept_is unit d z p l = elim (doubled d z l) [
   | inl side ↦ min_is unit (64 / 2 ^ d * 2 ^ z) p side
@@ -115,18 +117,20 @@ low_of log unit (suc zero) z e least most l fits = elim (cases_lt z (log - 5)) [
 ]
 low_of log unit (suc (suc d)) z e least most l fits = absurd (omega arith)
 
--- the logarithm of a side
+-- a unit's side is 2 to its logarithm, which is from 5 to 8
 pub record HasLog2 (unit : ℕ) : Type 0 where
   pub power : 2 ^ unit_log2 unit ≡ unit
   pub least : 5 ≤ unit_log2 unit
   pub most : unit_log2 unit ≤ 8
 
+-- The side of a unit is a power of two from 2^5 to 2^8.
 pub log2_is : (unit : ℕ) → IsSide unit → HasLog2 unit
 log2_is unit (inl e) = subst HasLog2 (sym e) (record { power = refl; least = omega arith; most = omega arith })
 log2_is unit (inr (inl e)) = subst HasLog2 (sym e) (record { power = refl; least = omega arith; most = omega arith })
 log2_is unit (inr (inr (inl e))) = subst HasLog2 (sym e) (record { power = refl; least = omega arith; most = omega arith })
 log2_is unit (inr (inr (inr e))) = subst HasLog2 (sym e) (record { power = refl; least = omega arith; most = omega arith })
 
+-- A unit kept to 2^z superblocks spans no more than 2^z superblocks of its plane.
 pub low_shift : (unit d z : ℕ) → IsSide unit → d ≤ 1 → unit ≤ 64 / 2 ^ d * 2 ^ z → unit_log2 unit - (6 - d) ≤ z
 low_shift unit d z p l fits = let log = log2_is unit p in low_of (unit_log2 unit) unit d z log.power log.least log.most l fits
 
@@ -151,7 +155,7 @@ at_least log unit zero e five l least = elim (cases_lt log 6) [
 at_least log unit (suc zero) e five l least = five
 at_least log unit (suc (suc d)) e five l least = absurd (omega arith)
 
--- the units of a side are no more than cover it
+-- a side has no more units than cover it
 count_low : (unit side : ℕ) → 0 < unit → 0 < side → unit_count unit side ≤ div_ceil side unit
 count_low unit side some filled =
     let one = div_ceil-pos side unit filled some in
@@ -166,7 +170,7 @@ count_low unit side some filled =
     ] in
     omega arith
 
--- so they are no more than the superblocks of the frame make
+-- a side has no more units than the superblocks of the frame make
 pub count_covered : (unit d side frame : ℕ) → IsSide unit → d ≤ 1 → 64 / 2 ^ d ≤ unit → 0 < side → side ≤ div_ceil frame 64 * (64 / 2 ^ d)
     → unit_count unit side ≤ div_ceil (div_ceil frame 64) (2 ^ (unit_log2 unit - (6 - d)))
 count_covered unit d side frame p l least filled inside =

@@ -24,7 +24,7 @@ units_lie cols rows n superblock superblocks shifts long =
     let turned : cols * rows ≡ rows * cols = mul_comm cols rows in
     record { across = across; down = omega arith }
 
--- along one side: the superblocks of a tile that is cut to the frame
+-- along one side, a tile cut to the frame has its superblocks cut to the frame's
 superblocks_are : (part side frame first : ℕ) → 0 < side → div_ceil (min (part * side) (frame - first * side)) side ≡ min part (div_ceil frame side - first)
 superblocks_are part side frame first some = elim (cases_lt frame (first * side)) [
   | inl past ↦

@@ -38,14 +38,14 @@ kept_same unit side z most least =
     omega arith in
     grind (arith, nat_tests)
 
--- a side of some superblocks is no smaller than one
+-- a side of at least one superblock is no smaller than 32 samples
 pub kept_least : (side z : ℕ) → 32 ≤ side → 32 ≤ side * 2 ^ z
 kept_least side z least =
     let some : 1 ≤ 2 ^ z = pow_pos z in
     let all : 32 * 1 ≤ side * 2 ^ z = mul-le 32 1 side (2 ^ z) least some in
     all
 
--- the units of a side before the last one lie in it, and the last one is at most half a unit longer
+-- the units of a side before the last one end inside the side
 pub count_fits : (unit side : ℕ) → 32 ≤ unit → 0 < side → (unit_count unit side - 1) * unit < side
 count_fits unit side least some =
     let whole : (side + unit / 2) / unit * unit ≤ side + unit / 2 = omega (arith, div-add-mod' (side + unit / 2) unit) in
@@ -60,7 +60,7 @@ count_fits unit side least some =
     ap (λ (k : ℕ). k * unit + unit) one ∙ sym (ap (λ (k : ℕ). k * unit) next ∙ wide) in
     grind (arith, nat_tests)
 
--- and a row of prefix sums holds it
+-- a row of prefix sums holds the last unit of a side
 pub count_reaches : (unit side : ℕ) → 32 ≤ unit → unit ≤ 256 → 0 < side → side + 7 ≤ (unit_count unit side - 1) * unit + 392
 count_reaches unit side least most some =
     let q : ℕ = (side + unit / 2) / unit in
@@ -84,7 +84,7 @@ input_shifts p f h = ap (λ (t : Three PlaneConfig). (t.u.xdec, t.u.ydec)) h ∙
     of_sampling Cs444 = refl
     of_sampling Cs400 = refl
 
--- units by planes
+-- equal units of three planes are equal together
 pub three_units : (a b c a' b' c' : Units) → a ≡ a' → b ≡ b' → c ≡ c' → three a b c ≡ three a' b' c'
 three_units a b c a' b' c' e f g = ap (λ (x : Units). three x b c) e ∙ ap (λ (x : Units). three a' x c) f ∙ ap (λ (x : Units). three a' b' x) g
 
@@ -93,13 +93,13 @@ pub record IsUnitSide (unit : ℕ) : Type 0 where
   pub least : 32 ≤ unit
   pub most : unit ≤ 256
 
--- a choice of 0, 1 and 2
+-- a choice of 0, 1 and 2 is at most 2
 of_three : (a b : Bool) → (if a then 0 else if b then 1 else 2) ≤ 2
 of_three true b = omega arith
 of_three false true = omega arith
 of_three false false = omega arith
 
--- a choice of 0 and 1
+-- a choice of 0 and 1 is at most 1
 of_two : (a : Bool) → (if a then 1 else 0) ≤ 1
 of_two true = omega arith
 of_two false = omega arith
@@ -108,36 +108,36 @@ of_two false = omega arith
 pub base_most : (p : Parameters) → base_shift p ≤ 2
 base_most p = of_three (nat_lt 200 p.base_q_idx) (nat_lt 160 p.base_q_idx || p.sequence.use_128x128_superblock)
 
--- and once more for chroma
+-- a chroma unit is at most once halved against a luma unit
 pub half_most : (p : Parameters) → chroma_shift p ≤ 1
 half_most p =
     let unit = 256 / 2 ^ base_shift p in
     of_two (base_shift p == 2 || (is_stretched p unit && not (is_stretched p (unit / 2))))
 
--- 256 halved twice at most
+-- 256 halved at most twice is from 64 to 256
 halved : (b : ℕ) → b ≤ 2 → (64 ≤ 256 / 2 ^ b) × (256 / 2 ^ b ≤ 256)
 halved zero l = (omega arith, omega arith)
 halved (suc zero) l = (omega arith, omega arith)
 halved (suc (suc zero)) l = (omega arith, omega arith)
 halved (suc (suc (suc b))) l = absurd (omega arith)
 
--- a unit halved once at most
+-- a unit halved at most once has a side that a unit may have
 halved_once : (unit s : ℕ) → 64 ≤ unit → unit ≤ 256 → s ≤ 1 → IsUnitSide (unit / 2 ^ s)
 halved_once unit zero least most l = record { least = omega arith; most = omega arith }
 halved_once unit (suc zero) least most l = record { least = omega arith; most = omega arith }
 halved_once unit (suc (suc s)) least most l = absurd (omega arith)
 
--- one of two sides
+-- a choice of two sides that a unit may have is such a side
 either : (b : Bool) (m n : ℕ) → IsUnitSide m → IsUnitSide n → IsUnitSide (if b then m else n)
 either true m n f g = f
 either false m n f g = g
 
--- one of two pairs of sides
+-- luma's and chroma's units have sides that units may have
 record AreUnitSides (s : UnitSizes) : Type 0 where
   luma : IsUnitSide s.luma
   chroma : IsUnitSide s.chroma
 
--- one of two pairs of sides
+-- a choice of two pairs of sides that units may have is such a pair
 either_sizes : (b : Bool) (m n : UnitSizes) → AreUnitSides m → AreUnitSides n → AreUnitSides (if b then m else n)
 either_sizes true m n f g = f
 either_sizes false m n f g = g
@@ -150,7 +150,7 @@ superblock_side p = by_test p.sequence.use_128x128_superblock
     by_test true = (omega arith, omega arith)
     by_test false = (omega arith, omega arith)
 
--- the sides by quantiser or superblock
+-- the wanted sizes are sides that units may have
 wanted_sides : (p : Parameters) → AreUnitSides (wanted_sizes p)
 wanted_sides p =
     let l = halved (base_shift p) (base_most p) in
@@ -165,19 +165,19 @@ wanted_sides p =
       chroma = either (is_420 (shifts p)) (2 ^ superblock_log2 p / 2) (2 ^ superblock_log2 p) (record { least = omega (arith, s.0); most = omega (arith, s.1) }) (record { least = omega (arith, s.0); most = omega (arith, s.1) });
     })
 
--- a side kept to some superblocks
+-- a unit kept to some superblocks has a side that a unit may have
 kept_side : (unit side z : ℕ) → IsUnitSide unit → 32 ≤ side → IsUnitSide (min unit (side * 2 ^ z))
 kept_side unit side z h least =
     let more : 32 ≤ side * 2 ^ z = kept_least side z least in
     record { least = omega (arith, h.least); most = omega (arith, h.most) }
 
--- a superblock in a chroma plane
+-- a superblock has at least 32 samples a side in a chroma plane
 decimated_side : (side d : ℕ) → 64 ≤ side → d ≤ 1 → 32 ≤ side / 2 ^ d
 decimated_side side zero least l = omega arith
 decimated_side side (suc zero) least l = omega arith
 decimated_side side (suc (suc d)) least l = absurd (omega arith)
 
--- the sides kept to whole tiles
+-- a unit kept to whole tiles has a side that a unit may have
 kept_sides : (p : Parameters) (d : ℕ × ℕ) (unit : ℕ) → d.0 ≤ 1 → d.1 ≤ 1 → IsUnitSide unit → IsUnitSide (kept_in_tiles p d unit)
 kept_sides p d unit l m h =
     let side = superblock_side p in
@@ -195,11 +195,11 @@ shifts_small p = of_sampling p.sequence.chroma_sampling
     of_sampling Cs444 = (omega arith, omega arith)
     of_sampling Cs400 = (omega arith, omega arith)
 
--- the lesser of two sides
+-- the lesser of two sides that units may have is such a side
 lesser : (m n : ℕ) → IsUnitSide m → IsUnitSide n → IsUnitSide (min m n)
 lesser m n f g = record { least = omega (arith, f.least, g.least); most = omega (arith, f.most, g.most) }
 
--- the sides for the tiles
+-- the sizes that the tiles allow are sides that units may have
 tile_sides : (p : Parameters) → AreUnitSides (tile_sizes p)
 tile_sides p =
     let wanted = wanted_sides p in
@@ -212,7 +212,7 @@ tile_sides p =
     })
     wanted
 
--- the sides of a frame's units
+-- the sizes of a frame's units are sides that units may have
 all_sides : (p : Parameters) → AreUnitSides (unit_sizes p)
 unfolding unit_sizes
 all_sides p =
@@ -220,10 +220,10 @@ all_sides p =
     either_sizes (is_420 (shifts p)) (tile_sizes p) (record { luma = min (tile_sizes p).luma (tile_sizes p).chroma; chroma = min (tile_sizes p).luma (tile_sizes p).chroma }) kept
     (record { luma = lesser (tile_sizes p).luma (tile_sizes p).chroma kept.luma kept.chroma; chroma = lesser (tile_sizes p).luma (tile_sizes p).chroma kept.luma kept.chroma })
 
--- those of luma units
+-- the side of a luma unit is a side that a unit may have
 pub luma_side : (p : Parameters) → IsUnitSide (unit_sizes p).luma
 luma_side p = (all_sides p).luma
 
--- those of chroma units
+-- the side of a chroma unit is a side that a unit may have
 pub chroma_side : (p : Parameters) → IsUnitSide (unit_sizes p).chroma
 chroma_side p = (all_sides p).chroma

@@ -31,17 +31,19 @@ use Rattle.av1_tiling.specs.Laws.{FramesCutUnits}
 abbrev kept_of : (side : ℕ) (d : ℕ × ℕ) (unit zw zh : ℕ) → ℕ
 kept_of side d unit zw zh = min (min unit (side / 2 ^ d.0 * 2 ^ zw)) (side / 2 ^ d.1 * 2 ^ zh)
 
+-- The sizes that the tiles allow, by numbers.
 abbrev tiled_of : (side : ℕ) (d : ℕ × ℕ) (several : Bool) (wanted : UnitSizes) (zw zh : ℕ) → UnitSizes
 tiled_of side d several wanted zw zh =
     if several then record { luma = kept_of side (0, 0) wanted.luma zw zh; chroma = kept_of side d wanted.chroma zw zh } else wanted
 
+-- The sizes of a frame's units, by numbers.
 abbrev final_of : (side : ℕ) (d : ℕ × ℕ) (several : Bool) (wanted : UnitSizes) (zw zh : ℕ) → UnitSizes
 final_of side d several wanted zw zh =
     let kept = tiled_of side d several wanted zw zh in
     let least = min kept.luma kept.chroma in
     if is_420 d then kept else record { luma = least; chroma = least }
 
--- a unit of a plane of these shifts fits tiles of sides with so many zeros
+-- a unit of a plane of these shifts fits tiles whose sides have these numbers of trailing zeros
 pub record FitsTiles (several : Bool) (zw zh : ℕ) (d : ℕ × ℕ) (unit : ℕ) : Type 0 where
   pub side : IsSide unit
   pub wide : 64 / 2 ^ d.0 ≤ unit
@@ -49,16 +51,17 @@ pub record FitsTiles (several : Bool) (zw zh : ℕ) (d : ℕ × ℕ) (unit : ℕ
   pub kept_wide : several ≡ true → unit ≤ 64 / 2 ^ d.0 * 2 ^ zw
   pub kept_high : several ≡ true → unit ≤ 64 / 2 ^ d.1 * 2 ^ zh
 
+-- the sizes of luma and of chroma units fit the tiles
 record BothFit (several : Bool) (zw zh : ℕ) (d : ℕ × ℕ) (s : UnitSizes) : Type 0 where
   luma : FitsTiles several zw zh (0, 0) s.luma
   chroma : FitsTiles several zw zh d s.chroma
 
--- a wanted side, no smaller than least
+-- a wanted size is a side of a unit and at least `low`
 record IsWanted (low unit : ℕ) : Type 0 where
   side : IsSide unit
   least : low ≤ unit
 
--- where chroma is halved both ways
+-- the sizes of units fit the tiles where chroma is halved both ways
 fit_420 : (several : Bool) (wanted : UnitSizes) (zw zh : ℕ) → IsWanted 64 wanted.luma → IsWanted 32 wanted.chroma → BothFit several zw zh (1, 1) (final_of 64 (1, 1) several wanted zw zh)
 fit_420 true wanted zw zh l c =
     let w = pow_pos zw in
@@ -89,7 +92,7 @@ fit_420 false wanted zw zh l c =
       chroma = record { side = c.side; wide = omega arith; high = omega arith; kept_wide = λ e. absurd (let f : false ≡ true = e in cc); kept_high = λ e. absurd (let f : false ≡ true = e in cc) };
     }
 
--- where only its columns are halved: tiles then have an even number of superblocks across
+-- the sizes of units fit the tiles at 4:2:2, where tiles have an even number of superblocks across
 fit_422 : (several : Bool) (wanted : UnitSizes) (zw zh : ℕ) → 1 ≤ zw → IsWanted 64 wanted.luma → IsWanted 64 wanted.chroma → BothFit several zw zh (1, 0) (final_of 64 (1, 0) several wanted zw zh)
 fit_422 true wanted zw zh even l c =
     let two : 2 ^ 1 ≤ 2 ^ zw = pow_mono even in
@@ -112,7 +115,7 @@ fit_422 false wanted zw zh even l c =
       chroma = record { side = side; wide = omega arith; high = omega arith; kept_wide = λ e. absurd (let f : false ≡ true = e in cc); kept_high = λ e. absurd (let f : false ≡ true = e in cc) };
     }
 
--- where it isn't halved
+-- the sizes of units fit the tiles where chroma isn't halved
 fit_444 : (several : Bool) (wanted : UnitSizes) (zw zh : ℕ) → IsWanted 64 wanted.luma → IsWanted 64 wanted.chroma → BothFit several zw zh (0, 0) (final_of 64 (0, 0) several wanted zw zh)
 fit_444 true wanted zw zh l c =
     let w = pow_pos zw in
@@ -137,19 +140,19 @@ fit_444 false wanted zw zh l c =
 
 -- What is wanted.
 
--- one of two sizes
+-- a choice of two wanted sizes is a wanted size
 either_wanted : (b : Bool) (least m n : ℕ) → IsWanted least m → IsWanted least n → IsWanted least (if b then m else n)
 either_wanted true least m n f g = f
 either_wanted false least m n f g = g
 
--- the largest unit, halved twice at most
+-- 256 halved at most twice is a wanted size of at least 64
 halved_twice : (b : ℕ) → b ≤ 2 → IsWanted 64 (256 / 2 ^ b)
 halved_twice zero l = record { side = inr (inr (inr refl)); least = omega arith }
 halved_twice (suc zero) l = record { side = inr (inr (inl refl)); least = omega arith }
 halved_twice (suc (suc zero)) l = record { side = inr (inl refl); least = omega arith }
 halved_twice (suc (suc (suc b))) l = absurd (omega arith)
 
--- and once more
+-- 256 samples halved up to three times are a wanted size of at least 32
 halved_again : (b s : ℕ) → b ≤ 2 → s ≤ 1 → IsWanted 32 (256 / 2 ^ b / 2 ^ s)
 halved_again zero zero l m = record { side = inr (inr (inr refl)); least = omega arith }
 halved_again zero (suc zero) l m = record { side = inr (inr (inl refl)); least = omega arith }
@@ -172,7 +175,7 @@ module _ (p : Parameters) (six : superblock_log2 p ≡ 6) where
       by_test true = halved_twice (base_shift p) (base_most p)
       by_test false = small
 
-  -- chroma units too where chroma isn't halved both ways, else at least half of one
+  -- the wanted size of chroma units is one of at least 64 where chroma isn't halved both ways
   chroma_wanted : is_420 (shifts p) ≡ false → IsWanted 64 (wanted_sizes p).chroma
   chroma_wanted e = by_test (p.sequence.enable_large_lru && p.sequence.enable_restoration)
     where
@@ -183,6 +186,7 @@ module _ (p : Parameters) (six : superblock_log2 p ≡ 6) where
       by_test true = rw e (halved_twice (base_shift p) (base_most p))
       by_test false = rw e small
 
+  -- At 4:2:0 the wanted chroma size is at least half a superblock.
   half_wanted : is_420 (shifts p) ≡ true → IsWanted 32 (wanted_sizes p).chroma
   half_wanted e = by_test (p.sequence.enable_large_lru && p.sequence.enable_restoration)
     where
@@ -198,6 +202,7 @@ abbrev has_several : TilingInfo → Bool
 has_several t = nat_lt 1 t.cols || nat_lt 1 t.rows
 
 module _ (p : Parameters) (six : superblock_log2 p ≡ 6) (even : is_422 p.sequence.chroma_sampling ≡ true → 1 ≤ trailing_zeros w64 p.sequence.tiling.tile_width_sb) where
+  -- A unit of this side fits the tiles in a plane of these shifts.
   abbrev Fit : ℕ → ℕ × ℕ → Type 0
   Fit side d =
       let t = p.sequence.tiling in
@@ -205,9 +210,11 @@ module _ (p : Parameters) (six : superblock_log2 p ≡ 6) (even : is_422 p.seque
       let zh = trailing_zeros w64 t.tile_height_sb in
       BothFit (has_several t) zw zh d (final_of side d (has_several t) (wanted_sizes p) zw zh)
 
+  -- What fits superblocks of 64 samples fits the frame's superblocks.
   of_64 : (d : ℕ × ℕ) → Fit 64 d → Fit (2 ^ superblock_log2 p) d
   of_64 d f = subst (λ (k : ℕ). Fit (2 ^ k) d) (sym six) f
 
+  -- The chroma size fits the tiles at each sampling.
   by_sampling : (s : ChromaSampling) → p.sequence.chroma_sampling ≡ s → Fit 64 (shifts p)
   by_sampling Cs420 e =
       let d : (1, 1) ≡ shifts p = sym (ap (λ (x : ChromaSampling). unwrap_or (decimation x) (0, 0)) e) in
@@ -229,7 +236,7 @@ module _ (p : Parameters) (six : superblock_log2 p ≡ 6) (even : is_422 p.seque
 
 -- Units in tiles.
 
--- along one side
+-- along one side, units that fit the tiles lie in whole tiles
 side_fits : (several : Bool) (z unit d tiles tile_sb side frame : ℕ) → IsSide unit → d ≤ 1 → 64 / 2 ^ d ≤ unit → (several ≡ true → unit ≤ 64 / 2 ^ d * 2 ^ z) → z ≡ trailing_zeros w64 tile_sb
     → (several ≡ false → tiles ≡ 1) → 0 < side → side ≤ div_ceil frame 64 * (64 / 2 ^ d)
     → FitsUnits (unit_log2 unit - (6 - d)) (unit_count unit side) tiles tile_sb (div_ceil frame 64)
@@ -250,6 +257,7 @@ visible_inside w (suc zero) some l =
     let held = (parts_hold (rounded w) 64 (omega arith)).0 in (omega arith, omega arith)
 visible_inside w (suc (suc d)) some l = absurd (omega arith)
 
+-- A frame that doesn't have several tiles has one column and one row of them.
 few_tiles : (cols rows : ℕ) → 0 < cols → 0 < rows → (nat_lt 1 cols || nat_lt 1 rows) ≡ false → (cols ≡ 1) × (rows ≡ 1)
 few_tiles cols rows c r e = (grind (arith, e), grind (arith, e))
 
@@ -266,6 +274,7 @@ pub record PlaneIn (p : Parameters) (t : TilingInfo) (d : ℕ × ℕ) (unit : �
   pub some_cols : 0 < t.cols
   pub some_rows : 0 < t.rows
 
+-- Units with the layout of a plane lie in whole tiles.
 plane_units : (p : Parameters) (t : TilingInfo) (d : ℕ × ℕ) (unit : ℕ) (u : Units) → PlaneIn p t d unit → HasLayout (unit_layout p unit d) u → AreTileUnits t u
 plane_units p t d unit u h layout =
     let log = log2_is unit h.fits.side in
@@ -295,12 +304,13 @@ plane_units p t d unit u h layout =
 whole_side : (n : ℕ) → round_up n 8 ≡ rounded n
 whole_side n = omega arith
 
--- so the units of a frame lie in its tiles
+-- the units of each plane of a frame lie in whole tiles
 pub record TileUnits (t : TilingInfo) (s : Three Units) : Type 0 where
   pub y : AreTileUnits t s.y
   pub u : AreTileUnits t s.u
   pub v : AreTileUnits t s.v
 
+-- The units of a frame lie in whole tiles, in each plane.
 pub frame_units : (limit : ℕ) (p : Parameters) (s : Three Units) → IsFrame limit p → AreUnitsFor p s → TileUnits p.sequence.tiling s
 frame_units limit p s frame units =
     let t = p.sequence.tiling in

@@ -36,7 +36,7 @@ use Rattle.av1_tiling.proofs.LawProofs.{cuts_planes, cuts_blocks, cuts_motion, c
 use Rattle.av1_tiling.proofs.Parts.{part_lies}
 use Rattle.av1_tiling.proofs.TilingFacts.{IsTiling}
 
--- a place of a moved rectangle, moved back
+-- a place of a moved rectangle, moved back, lies in the rectangle
 moved_back : (x y : ℕ) (r : TileRect) (u v : ℕ) → IsInside (shifted_rect x y r) u v → IsInside r (u - x) (v - y)
 moved_back x y r u v h =
     let left = h.left in let right = h.right in let top = h.top in let bottom = h.bottom in
@@ -48,11 +48,12 @@ either_apart : (empty : Bool) (x y : ℕ) (a b : TileRect) → AreApart a b
 either_apart true x y a b apart u v p q = let l = p.right in omega arith
 either_apart false x y a b apart u v p q = apart (u - x) (v - y) (moved_back x y a u v p) (moved_back x y b u v q)
 
+-- Rectangles without a common place in a plane have none in its stored rows.
 stored_apart : (cfg : PlaneConfig) (a b : TileRect) → AreApart (decimated_tile a cfg.xdec cfg.ydec) (decimated_tile b cfg.xdec cfg.ydec)
     → AreApart (stored_rect cfg a) (stored_rect cfg b)
 stored_apart cfg a b apart = either_apart ((cfg.width == 0) || (cfg.height == 0)) cfg.xorigin cfg.yorigin (decimated_tile a cfg.xdec cfg.ydec) (decimated_tile b cfg.xdec cfg.ydec) apart
 
--- the parts of tables belong to them
+-- the parts that are cut out of motion tables belong to them
 zip_parts : (rect : TileRect) (tables : List (Rows MEStats)) → All (λ m. IsTablePart (length m.entries) m.cols (part_at m.entries m.cols rect)) tables
     → AllZip (λ m part. IsTablePart (length m.entries) m.cols part) tables (motion_parts tables rect)
 zip_parts rect [] each = tt
@@ -61,17 +62,17 @@ zip_parts rect (m ∷ tables) each = (
   zip_parts rect tables (All-tail (λ t. IsTablePart (length t.entries) t.cols (part_at t.entries t.cols rect)) m tables each),
 )
 
--- one of them has the rectangle
+-- each part of a motion table has the tile's rectangle
 rect_at : (rect : TileRect) (tables : List (Rows MEStats)) (i : ℕ) → i < length tables → (get_or (motion_parts tables rect) i no_part).rect ≡ rect
 rect_at rect [] i l = absurd (omega arith)
 rect_at rect (m ∷ tables) zero l = refl
 rect_at rect (m ∷ tables) (suc i) l = rect_at rect tables i (omega arith)
 
--- past the last table there is none
+-- past the last table there is no part
 no_rect_at : (parts : List (Part MEStats)) (i : ℕ) → length parts ≤ i → (get_or parts i no_part).rect ≡ no_rect
 no_rect_at parts i l = ap (λ (p : Part MEStats). p.rect) (get_or-eq_default parts no_part l)
 
--- no rectangle has no place in common with another
+-- an empty rectangle has no place in common with another
 none_apart : (a b : TileRect) → a ≡ no_rect → AreApart a b
 none_apart a b e = subst (λ r. AreApart r b) (sym e) (λ u v p q. let l = p.right in omega arith)
 
@@ -82,13 +83,13 @@ motion_apart tables a b i apart = elim (cases_lt i (length tables)) [
   | inr past ↦ none_apart _ _ (no_rect_at (motion_parts tables a) i (omega (arith, length-map tables (λ t. part_at t.entries t.cols a))))
 ]
 
--- there are as many views as tiles
+-- the first n tiles have n views
 length-views_below : (t : TilingInfo) (s : State) (blocks : List Block) (n : ℕ) → length (views_below t s blocks n) ≡ n
 unfolding views_below
 length-views_below t s blocks zero = refl
 length-views_below t s blocks (suc n) = length-append (views_below t s blocks n) (view_of t s blocks n ∷ []) ∙ omega (arith, length-views_below t s blocks n)
 
--- each stands at its number
+-- the view of each tile stands at the tile's number
 pub get_or-views_below : (t : TilingInfo) (s : State) (blocks : List Block) (n k : ℕ) (d : View) → k < n → get_or (views_below t s blocks n) k d ≡ view_of t s blocks k
 unfolding views_below
 get_or-views_below t s blocks zero k d l = absurd (omega arith)
@@ -103,6 +104,7 @@ get_or-views_below t s blocks (suc n) k d l = elim (cases_lt k n) [
       ∙ (ap (λ (i : ℕ). get_or (view_of t s blocks n ∷ []) i d) first ∙ ap (λ (i : ℕ). view_of t s blocks i) (sym same))
 ]
 
+-- A frame has as many views as tiles.
 pub length-views : (t : TilingInfo) (s : State) (blocks : List Block) → length (views t s blocks) ≡ t.cols * t.rows
 length-views t s blocks = length-views_below t s blocks (t.cols * t.rows)
 
@@ -113,7 +115,7 @@ all_views P t s blocks each k d l =
     let below : k < t.cols * t.rows = omega (arith, length-views t s blocks) in
     subst P (sym (get_or-views_below t s blocks (t.cols * t.rows) k d below)) (each k below)
 
--- parts of views are apart where those of any two tiles are
+-- parts of views have no place in common where the parts of any two tiles have none
 apart_parts : {E : Type 0} (part : View → Part E) (t : TilingInfo) (s : State) (blocks : List Block)
     → ((m n : ℕ) → m < n → n < t.cols * t.rows → AreApart (part (view_of t s blocks m)).rect (part (view_of t s blocks n)).rect)
     → ArePartsApart (map part (views t s blocks))
@@ -129,6 +131,7 @@ apart_parts part t s blocks apart i j d l m =
     (subst (λ p. AreApart (part (view_of t s blocks i)).rect p.rect) (sym at_j) (apart i j l below))
 
 module _ (t : TilingInfo) (s : State) (blocks : List Block) (cols rows : ℕ) (made : IsTilingOf t s cols rows) where
+  -- The tiling has what holds of every tiling.
   facts : IsTiling t
   facts = tiling_facts t s cols rows made
 
@@ -149,13 +152,13 @@ module _ (t : TilingInfo) (s : State) (blocks : List Block) (cols rows : ℕ) (m
     pub tile_fits_v : PartFits s.rec.v.cfg (tile_samples t n)
     tile_fits_v = fits_v s (tile_superblock t n) t.sb_size_log2 (tile_luma t n).width (tile_luma t n).height lies place.six
 
-    -- a part of a plane belongs to it
+    -- a tile's part of a plane belongs to the plane
     pub plane_of : (p : PlaneView) → IsFull p → PartFits p.cfg (tile_samples t n) → IsTablePart (length p.samples) p.cfg.stride (plane_part p (tile_samples t n))
     plane_of p full fits =
         let rect = part_lies (length p.samples) p.cfg (tile_samples t n) fits full in
         record { lies = rect; table_cols = refl; whole = length-cut_of p.samples p.cfg.stride _ _ _ _ rect }
 
-    -- a part of a table with an entry for each block belongs to it
+    -- a tile's part of a table with an entry for each block belongs to the table
     pub table_of : {E : Type 0} (table : List E) → length table ≡ cols * rows → IsTablePart (length table) cols (part_at table (block_columns t) (tile_blocks t n))
     table_of table full =
         let inside = (cuts_blocks t facts).inside n l in
@@ -167,7 +170,7 @@ module _ (t : TilingInfo) (s : State) (blocks : List Block) (cols rows : ℕ) (m
         let rect : LiesIn (length table) (block_columns t) (tile_blocks t n).x (tile_blocks t n).y (tile_blocks t n).width (tile_blocks t n).height = record { across = across; down = omega arith } in
         record { lies = rect; table_cols = sym wide; whole = length-cut_of table (block_columns t) _ _ _ _ rect }
 
-    -- so does one of a table of motion records
+    -- a tile's part of a table of motion records belongs to the table
     pub motion_of : (m : Rows MEStats) → IsFullTable m → (m.cols ≡ cols) × (m.rows ≡ rows) → IsTablePart (length m.entries) m.cols (part_at m.entries m.cols (tile_motion t n))
     motion_of m full sides =
         let wide : block_columns t ≡ m.cols = sym made.wide ∙ sym sides.0 in
@@ -201,15 +204,15 @@ module _ (t : TilingInfo) (s : State) (blocks : List Block) (cols rows : ℕ) (m
   planes_apart cfg m n fits l k = stored_apart cfg (tile_samples t m) (tile_samples t n) (λ u v p q.
       let same = (cuts_planes t facts cfg.xdec cfg.ydec fits.xdec fits.ydec).apart m n u v (omega arith) k p q in omega arith)
 
-  -- and no block
+  -- two tiles have no block in common
   pub blocks_apart : (m n : ℕ) → m < n → n < t.cols * t.rows → AreApart (tile_blocks t m) (tile_blocks t n)
   blocks_apart m n l k u v p q = let same = (cuts_blocks t facts).apart m n u v (omega arith) k p q in omega arith
 
-  -- and no motion record
+  -- two tiles have no motion record in common
   pub motions_apart : (m n : ℕ) → m < n → n < t.cols * t.rows → AreApart (tile_motion t m) (tile_motion t n)
   motions_apart m n l k u v p q = let same = (cuts_motion t facts).apart m n u v (omega arith) k p q in omega arith
 
-  -- and no unit of a plane
+  -- two tiles have no restoration unit of a plane in common
   pub units_apart : (u : Units) → AreTileUnits t u → (m n : ℕ) → m < n → n < t.cols * t.rows
       → AreApart (unit_part u (tile_superblock t m) (div_ceil (tile_luma t m).width (2 ^ t.sb_size_log2), div_ceil (tile_luma t m).height (2 ^ t.sb_size_log2))).rect
       (unit_part u (tile_superblock t n) (div_ceil (tile_luma t n).width (2 ^ t.sb_size_log2), div_ceil (tile_luma t n).height (2 ^ t.sb_size_log2))).rect
@@ -220,7 +223,7 @@ module _ (t : TilingInfo) (s : State) (blocks : List Block) (cols rows : ℕ) (m
       (subst (AreApart (tile_units t u.cfg.sb_h_shift u.cfg.sb_v_shift u.cols u.rows m)) (sym rect_n)
       (λ a b p q. let same = (cuts_units t facts u.cfg.sb_h_shift u.cfg.sb_v_shift u.cols u.rows made_units.across made_units.down).apart m n a b (omega arith) k p q in omega arith))
 
-  -- so no two views have a place in common
+  -- no two views of a frame have a place in common
   pub views_apart : AreViewsApart (views t s blocks)
   views_apart = record {
     y = apart_parts (λ v. v.ts.rec.y) t s blocks (λ m n l k. planes_apart s.rec.y.cfg m n (tile_fits_y n k) l k);
@@ -233,11 +236,11 @@ module _ (t : TilingInfo) (s : State) (blocks : List Block) (cols rows : ℕ) (m
     blocks = apart_parts (λ v. v.blocks) t s blocks blocks_apart;
   }
 
-  -- and each lies where it was cut out
+  -- each view of a frame belongs to the tables that it was cut from
   pub views_lie : AreFull s.rec → length blocks ≡ cols * rows → All (ViewLies (state_tables s (record { cols = cols; rows = rows; entries = blocks }))) (views t s blocks)
   views_lie full long = all_views (ViewLies (state_tables s (record { cols = cols; rows = rows; entries = blocks }))) t s blocks (λ n l. view_lies n l full long)
 
--- what a coder leaves lies where it began
+-- a part that keeps its rectangle belongs to the table that it belonged to
 same_part : {E : Type 0} (n cols : ℕ) (a b : Part E) → SameRect a b → IsTablePart n cols a → IsTablePart n cols b
 same_part n cols a b same of = record {
   lies = rw (same.rect, same.table_cols) of.lies;
@@ -245,7 +248,7 @@ same_part n cols a b same of = record {
   whole = same.length ∙ (of.whole ∙ ap (λ (r : TileRect). r.height * r.width) (sym same.rect));
 }
 
--- so does each of its motion parts
+-- the motion parts of a view that keeps its rectangles belong to their tables
 same_motion : (tables : List (Rows MEStats)) (before after : List (Part MEStats)) → AllZip SameRect before after
     → AllZip (λ m part. IsTablePart (length m.entries) m.cols part) tables before → AllZip (λ m part. IsTablePart (length m.entries) m.cols part) tables after
 same_motion [] [] [] same of = tt
@@ -255,6 +258,7 @@ same_motion (m ∷ tables) [] after same of = absurd of
 same_motion (m ∷ tables) (a ∷ before) [] same of = absurd same
 same_motion (m ∷ tables) (a ∷ before) (b ∷ after) same of = (same_part (length m.entries) m.cols a b same.0 of.0, same_motion tables before after same.1 of.1)
 
+-- A view that keeps the rectangles of another belongs to the tables that the other belongs to.
 pub coded_lies : (tables : Tables) (v w : View) → SameShape v w → ViewLies tables v → ViewLies tables w
 coded_lies tables v w shape l = record {
   y = same_part (length tables.rec.y.samples) tables.rec.y.cfg.stride v.ts.rec.y w.ts.rec.y shape.y l.y;
@@ -267,7 +271,7 @@ coded_lies tables v w shape l = record {
   blocks = same_part (length tables.blocks.entries) tables.blocks.cols v.blocks w.blocks shape.blocks l.blocks;
 }
 
--- and its part of one table
+-- a view that keeps its rectangles keeps the rectangle of each motion part
 motion_stays_put : (i : ℕ) (v w : View) → SameShape v w → (motion_part i w).rect ≡ (motion_part i v).rect
 motion_stays_put i v w shape = elim (cases_lt i (length v.ts.me_stats)) [
   | inl less ↦ (AllZip-get_or SameRect v.ts.me_stats w.ts.me_stats i no_part no_part shape.motion less).rect
@@ -276,7 +280,7 @@ motion_stays_put i v w shape = elim (cases_lt i (length v.ts.me_stats)) [
       ∙ sym (no_rect_at v.ts.me_stats i past)
 ]
 
--- each part keeps its place
+-- the parts of views that keep their rectangles have the rectangles that they had
 rects_stay : {E : Type 0} (part : View → Part E) → ((v w : View) → SameShape v w → (part w).rect ≡ (part v).rect) → (before after : List View) → AllZip SameShape before after
     → (k : ℕ) (d : Part E) → k < length before → (get_or (map part after) k d).rect ≡ (get_or (map part before) k d).rect
 rects_stay part same [] after shapes k d l = absurd (omega arith)
@@ -284,15 +288,16 @@ rects_stay part same (v ∷ before) [] shapes k d l = absurd shapes
 rects_stay part same (v ∷ before) (w ∷ after) shapes zero d l = same v w shapes.0
 rects_stay part same (v ∷ before) (w ∷ after) shapes (suc k) d l = rects_stay part same before after shapes.1 k d (omega arith)
 
--- so do all tiles
+-- Coded views, which keep the rectangles of the starting views.
 module _ (before after : List View) (shapes : AllZip SameShape before after) where
+  -- The views that the coder leaves belong to the tables that the starting views belong to.
   pub coded_lie : (tables : Tables) → All (ViewLies tables) before → All (ViewLies tables) after
   coded_lie tables each k d l =
       let long = AllZip-long SameShape before after shapes in
       let below : k < length before = omega arith in
       coded_lies tables (get_or before k d) (get_or after k d) (AllZip-get_or SameShape before after k d d shapes below) (each k d below)
 
-  -- parts that were apart stay so
+  -- parts without a common place have none where the views keep their rectangles
   parts_stay_apart : {E : Type 0} (part : View → Part E) → ((v w : View) → SameShape v w → (part w).rect ≡ (part v).rect) → ArePartsApart (map part before) → ArePartsApart (map part after)
   parts_stay_apart part same apart i j d l m =
       let long = AllZip-long SameShape before after shapes in
@@ -301,6 +306,7 @@ module _ (before after : List View) (shapes : AllZip SameShape before after) whe
       subst (λ r. AreApart r (get_or (map part after) j d).rect) (sym (rects_stay part same before after shapes i d (omega arith)))
       (subst (λ r. AreApart (get_or (map part before) i d).rect r) (sym (rects_stay part same before after shapes j d (omega arith))) (apart i j d l (omega arith)))
 
+  -- The views that the coder leaves have no place in common.
   pub coded_apart : AreViewsApart before → AreViewsApart after
   coded_apart apart = record {
     y = parts_stay_apart (λ v. v.ts.rec.y) (λ v w s. s.y.rect) apart.y;
@@ -317,6 +323,6 @@ module _ (before after : List View) (shapes : AllZip SameShape before after) whe
 full_plane : {X : Type 0} (number : X → ℤ) (p : Plane X) → IsFull (view_plane number p)
 full_plane number p = length-map p.samples.items number ∙ p.stored
 
--- so are those of a frame
+-- each plane of a frame has as many samples as its layout says
 pub full_frame : {X : Type 0} (number : X → ℤ) (f : Frame X) → AreFull (view_frame number f)
 full_frame number f = record { y = full_plane number f.planes.y; u = full_plane number f.planes.u; v = full_plane number f.planes.v }

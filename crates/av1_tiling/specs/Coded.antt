@@ -13,11 +13,11 @@ use Rattle.av1_tiling.specs.Views.{View, Part, PlaneView}
 use Rattle.av1_tiling.specs.Frames.{State, no_rect}
 use Rattle.av1_tiling.specs.Puts.{Tables, PartLies}
 
--- entry k of a table with so many columns stands in a part's rectangle
+-- entry k of a table with `cols` columns stands in a part's rectangle
 abbrev pub IsCovered : {E : Type 0} → (cols k : ℕ) → Part E → Type 0
 IsCovered cols k part = IsInside part.rect (k % cols) (k / cols)
 
--- the entry that a part has for place k
+-- the entry that a part has for place k of a table with `cols` columns
 abbrev pub entry_in : {E : Type 0} → (cols k : ℕ) → Part E → Option E
 entry_in cols k part = slice_get part.entries ((k / cols - part.rect.y) * part.rect.width + (k % cols - part.rect.x))
 
@@ -27,7 +27,7 @@ pub record HasParts {E : Type 0} (cols : ℕ) (parts : List (Part E)) (old new :
   pub inside : (k : ℕ) → All (λ part. IsCovered cols k part → slice_get new k ≡ entry_in cols k part) parts
   pub elsewhere : (k : ℕ) → All (λ part. ¬ IsCovered cols k part) parts → slice_get new k ≡ slice_get old k
 
--- a part of a table of n entries with so many columns, with an entry for each of its places
+-- a part of a table of n entries with `cols` columns, with an entry for each of its places
 pub record IsTablePart {E : Type 0} (n cols : ℕ) (part : Part E) : Type 0 where
   pub lies : PartLies n part
   pub table_cols : part.table_cols ≡ cols
@@ -52,7 +52,7 @@ pub record ViewLies (tables : Tables) (view : View) : Type 0 where
   pub v_units : IsTablePart (length tables.units.v.entries) tables.units.v.cols view.ts.units.v
   pub blocks : IsTablePart (length tables.blocks.entries) tables.blocks.cols view.blocks
 
--- no rectangle, cut out
+-- the part with an empty rectangle
 abbrev pub no_part : {E : Type 0} → Part E
 no_part = record { rect = no_rect; table_cols = 0; entries = [] }
 
@@ -71,40 +71,40 @@ pub record AreViewsApart (views : List View) : Type 0 where
   pub v_units : ArePartsApart (map (λ v. v.ts.units.v) views)
   pub blocks : ArePartsApart (map (λ v. v.blocks) views)
 
--- a plane whose samples are those of the parts, and elsewhere as they were
+-- a plane with the samples of the parts in their rectangles, and with those of old elsewhere
 pub record IsCodedPlane (parts : List (Part ℤ)) (old new : PlaneView) : Type 0 where
   pub cfg : new.cfg ≡ old.cfg
   pub samples : HasParts old.cfg.stride parts old.samples new.samples
 
--- the planes of a frame
+-- the planes of a frame with each view's samples in its rectangles
 pub record IsCodedFrame (views : List View) (old new : Three PlaneView) : Type 0 where
   pub y : IsCodedPlane (map (λ v. v.ts.rec.y) views) old.y new.y
   pub u : IsCodedPlane (map (λ v. v.ts.rec.u) views) old.u new.u
   pub v : IsCodedPlane (map (λ v. v.ts.rec.v) views) old.v new.v
 
--- the block table, with so many columns
+-- the entries of a block table with `cols` columns, with each view's blocks in its rectangle
 abbrev pub AreCodedBlocks : (cols : ℕ) → List View → (old new : List Block) → Type 0
 AreCodedBlocks cols views old new = HasParts cols (map (λ v. v.blocks) views) old new
 
--- a table whose entries are those of the parts, and elsewhere as they were
+-- a table with the entries of the parts in their rectangles, and with those of old elsewhere
 pub record IsCodedTable {E : Type 0} (parts : List (Part E)) (old new : Rows E) : Type 0 where
   pub cols : new.cols ≡ old.cols
   pub rows : new.rows ≡ old.rows
   pub entries : HasParts old.cols parts old.entries new.entries
 
--- the tables of motion records
+-- the tables of motion records with each view's records in its rectangles
 pub record IsCodedMotion (views : List View) (old new : List (Rows MEStats)) : Type 0 where
   pub count : length new ≡ length old
   pub tables : (i : ℕ) (d : Rows MEStats) → i < length old → IsCodedTable (map (motion_part i) views) (slice_index_or old i d) (slice_index_or new i d)
 
--- a plane's units
+-- a plane's units with those of the parts in their rectangles, and with those of old elsewhere
 pub record IsCodedUnitTable (parts : List (Part RestorationUnit)) (old new : Units) : Type 0 where
   pub cfg : new.cfg ≡ old.cfg
   pub cols : new.cols ≡ old.cols
   pub rows : new.rows ≡ old.rows
   pub entries : HasParts old.cols parts old.entries new.entries
 
--- the units of all planes
+-- the units of all planes with each view's units in its rectangles
 pub record AreCodedUnits (views : List View) (old new : Three Units) : Type 0 where
   pub y : IsCodedUnitTable (map (λ v. v.ts.units.y) views) old.y new.y
   pub u : IsCodedUnitTable (map (λ v. v.ts.units.u) views) old.u new.u

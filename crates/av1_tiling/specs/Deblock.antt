@@ -2,6 +2,7 @@
 use Rattle.std.specs.Prelude.{pos, [], ◌∷◌, false}
 use Rattle.av1_tiling.specs.declared.deblock_state.DeblockState.{DeblockState}
 
+-- the deblocking state with all levels and deltas 0, and the deltas switched off
 abbrev pub default_deblock : DeblockState
 default_deblock = record {
   levels = 0 ∷ 0 ∷ 0 ∷ 0 ∷ [];

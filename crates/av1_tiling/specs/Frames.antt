@@ -29,7 +29,7 @@ use Rattle.av1_tiling.specs.Restoration.{Units}
 use Rattle.av1_tiling.specs.UnitSizes.{AreUnitsFor, start_units}
 use Rattle.av1_tiling.specs.Views.{PlaneView, Part, TileState, View, IsFullTable}
 
--- what changes
+-- what changes while a frame is coded
 pub record State : Type 0 where
   pub input : Three PlaneView
   pub input_hres : PlaneView
@@ -52,11 +52,12 @@ pub record AreMotionTables (cols rows : ℕ) (tables : List (Rows MEStats)) : Ty
 abbrev pub FitsDepth : (limit depth : ℕ) → Type 0
 FitsDepth limit depth = ((depth ≡ 8) × (limit ≡ 256)) ⊎ (((depth ≡ 10) ⊎ (depth ≡ 12)) × (limit ≡ 65536))
 
+-- whether the sampling is 4:2:2
 abbrev pub is_422 : ChromaSampling → Bool
 is_422 Cs422 = true
 is_422 sampling = false
 
--- the logarithm of the side of its superblocks
+-- the logarithm of the side of a frame's superblocks
 abbrev pub superblock_side_log2 : Parameters → ℕ
 superblock_side_log2 p = superblock_log2 p.sequence.use_128x128_superblock
 
@@ -109,7 +110,7 @@ pub record AreBlocksFor (p : Parameters) (table : Rows Block) : Type 0 where
   pub columns : table.cols ≡ p.w_in_b
   pub rows : table.rows ≡ p.h_in_b
 
--- a state and a block table are
+-- a state and a block table are made for a frame
 pub record IsMadeFor (p : Parameters) (s : State) (table : Rows Block) : Type 0 where
   pub state : IsStateFor p s
   pub blocks : AreBlocksFor p table
@@ -121,10 +122,11 @@ pub record IsInputFor (p : Parameters) (f : Three PlaneView) : Type 0 where
   pub u_range : IsInRange (2 ^ p.sequence.bit_depth) f.u
   pub v_range : IsInRange (2 ^ p.sequence.bit_depth) f.v
 
--- a plane of this layout, and a frame of these sides, all samples zero
+-- a plane of this layout, all samples zero
 abbrev pub blank : PlaneConfig → PlaneView
 blank cfg = record { cfg = cfg; samples = replicate (cfg.stride * cfg.alloc_height) (pos 0) }
 
+-- the planes of a frame of these sides, all samples zero
 abbrev pub blank_frame : ℕ → ℕ → ChromaSampling → Three PlaneView
 blank_frame width height sampling =
     let layout = frame_layout width height sampling in record { y = blank layout.y; u = blank layout.u; v = blank layout.v }
@@ -144,11 +146,11 @@ start p input hres qres = record {
   frame_me_stats = replicate 8 (blank_motion p.w_in_b p.h_in_b);
 }
 
--- no rectangle
+-- the empty rectangle
 abbrev pub no_rect : TileRect
 no_rect = record { x = 0; y = 0; width = 0; height = 0 }
 
--- a rectangle so many columns and rows further on
+-- a rectangle moved by these numbers of columns and rows
 abbrev pub shifted_rect : ℕ → ℕ → TileRect → TileRect
 shifted_rect x y rect = record rect { x = x + rect.x; y = y + rect.y }
 
@@ -158,7 +160,7 @@ stored_rect cfg luma =
     if (cfg.width == 0) || (cfg.height == 0) then no_rect
     else shifted_rect cfg.xorigin cfg.yorigin (decimated_tile luma cfg.xdec cfg.ydec)
 
--- a rectangle of a list of rows, cut out
+-- a rectangle of a table with `cols` columns, cut out
 abbrev pub part_at : {E : Type 0} → List E → ℕ → TileRect → Part E
 part_at table cols rect = record { rect = rect; table_cols = cols; entries = cut_of table cols rect.x rect.y rect.width rect.height }
 
@@ -166,20 +168,20 @@ part_at table cols rect = record { rect = rect; table_cols = cols; entries = cut
 abbrev pub plane_part : PlaneView → TileRect → Part ℤ
 plane_part p luma = part_at p.samples p.cfg.stride (stored_rect p.cfg luma)
 
--- the parts of all planes
+-- the parts of a frame's planes that a rectangle of luma samples covers
 abbrev pub frame_parts : Three PlaneView → TileRect → Three (Part ℤ)
 frame_parts f luma = record { y = plane_part f.y luma; u = plane_part f.u luma; v = plane_part f.v luma }
 
--- the parts of tables of motion records
+-- a rectangle of each table of motion records, cut out
 abbrev pub motion_parts : List (Rows MEStats) → TileRect → List (Part MEStats)
 motion_parts tables rect = map (λ t. part_at t.entries t.cols rect) tables
 
--- the part of a plane's units that a tile of so many superblocks covers
+-- the part of a plane's units that a tile of these superblocks covers
 abbrev pub unit_part : Units → (superblock superblocks : ℕ × ℕ) → Part RestorationUnit
 unit_part u superblock superblocks =
     part_at u.entries u.cols (units_rect superblock superblocks (u.cfg.sb_h_shift, u.cfg.sb_v_shift) (u.cols, u.rows))
 
--- the parts of all planes
+-- the parts of all planes' units that a tile of these superblocks covers
 abbrev pub unit_parts : Three Units → (superblock superblocks : ℕ × ℕ) → Three (Part RestorationUnit)
 unit_parts s superblock superblocks = record {
   y = unit_part s.y superblock superblocks;
@@ -198,7 +200,7 @@ pub record HoldsRect {E : Type 0} (rect : TileRect) (table : Rows E) : Type 0 wh
   pub across : rect.x + rect.width ≤ table.cols
   pub down : rect.y + rect.height ≤ table.rows
 
--- that part is stored
+-- the part of a plane that a luma rectangle covers is stored
 pub record PartFits (cfg : PlaneConfig) (luma : TileRect) : Type 0 where
   pub columns : (stored_rect cfg luma).x + (stored_rect cfg luma).width ≤ cfg.stride
   pub rows : (stored_rect cfg luma).y + (stored_rect cfg luma).height ≤ cfg.alloc_height
@@ -222,7 +224,7 @@ pub record LiesInFrame (s : State) (superblock : ℕ × ℕ) (sb_size_log2 width
   pub wide : superblock.0 * 2 ^ sb_size_log2 + width ≤ rounded frame_width
   pub high : superblock.1 * 2 ^ sb_size_log2 + height ≤ rounded frame_height
 
--- what a tile is coded from whose first superblock and luma sides are these
+-- what a tile with this first superblock and these luma sides is coded from
 abbrev pub tile_state : State → ℕ × ℕ → (sb_size_log2 width height : ℕ) → TileState
 tile_state s superblock sb_size_log2 width height =
     let side = 2 ^ sb_size_log2 in
@@ -254,11 +256,12 @@ view_of t s blocks n = record {
   frame_rows = block_rows t;
 }
 
--- those of the first n tiles, and of all
+-- the starting views of the first n tiles
 unfoldable pub views_below : TilingInfo → State → List Block → ℕ → List View
 views_below t s blocks zero = []
 views_below t s blocks (suc n) = views_below t s blocks n ++ view_of t s blocks n ∷ []
 
+-- the starting views of all tiles
 abbrev pub views : TilingInfo → State → List Block → List View
 views t s blocks = views_below t s blocks (t.cols * t.rows)
 

@@ -18,24 +18,25 @@ IsBuiltSide log2 = log2 ≡ 6
 abbrev pub round_up : ℕ → ℕ → ℕ
 round_up n d = div_ceil n d * d
 
--- v kept from low to high
+-- v, but at least low and at most high
 abbrev pub clamp : ℕ → ℕ → ℕ → ℕ
 clamp v low high = min (max v low) high
 
--- the least columns: a tile is at most 4096 samples wide
+-- the logarithm of the fewest columns: a tile is at most 4096 samples wide
 abbrev pub min_cols_log2 : ℕ → ℕ → ℕ
 min_cols_log2 s sb_cols = tile_log2 (4096 / 2 ^ s) sb_cols
 
--- the most columns or rows: there are at most 64, each of a superblock or more
+-- the logarithm of the most columns or rows: at most 64, each of a superblock or more
 abbrev pub max_count_log2 : ℕ → ℕ
 max_count_log2 sb_count = tile_log2 1 (min sb_count 64)
 
--- the least tiles: a tile has at most 4096 * 2304 samples
+-- the logarithm of the fewest tiles by size: a tile has at most 4096 * 2304 samples
 abbrev pub min_tiles_log2 : ℕ → ℕ → ℕ → ℕ
 min_tiles_log2 s sb_cols sb_rows =
     max (min_cols_log2 s sb_cols) (tile_log2 (4096 * 2304 / 2 ^ (2 * s)) (sb_cols * sb_rows))
 
--- the least tiles: a tile has at most 588251136 samples a second, at num / den frames of so many samples
+-- the logarithm of the fewest tiles by rate: at num / den frames of this many samples a second,
+-- a tile has at most 588251136 samples a second
 unfoldable pub rate_log2 : ℕ → ℕ → ℕ → ℕ
 rate_log2 samples num den = least (λ k. nat_le (samples * num) (2 ^ k * (588251136 * den))) 64
 
@@ -48,14 +49,15 @@ unfoldable pub tile_width : ℕ → ℕ → ℕ → Bool → ℕ
 tile_width s sb_cols target is_422 =
     width_of sb_cols (clamp target (min_cols_log2 s sb_cols) (max_count_log2 sb_cols)) is_422
 
--- the frames that have a grid at some rate: sides from 1 to 65536
+-- whether a frame may have this side: from 1 to 65536 samples
 abbrev pub is_side : ℕ → Bool
 is_side side = nat_lt 0 side && nat_le side 65536
 
+-- whether a frame has a grid at some rate, by its superblocks, its sides and the rate's denominator
 abbrev pub is_frame : ℕ → ℕ → ℕ → ℕ → Bool
 is_frame s width height den = (s == 6 || s == 7) && (is_side width && (is_side height && nat_lt 0 den))
 
--- the grid of a frame of whole blocks of 8 samples, for at least so many tiles by size and by rate
+-- the grid of a frame of whole blocks of 8 samples, for at least these numbers of tiles by size and rate
 abbrev pub grid_within : (s width height min_tiles rate_tiles target_cols target_rows : ℕ) → Bool → Option TilingInfo
 grid_within s width height min_tiles rate_tiles target_cols target_rows is_422 =
     let sb_cols = div_ceil width (2 ^ s) in

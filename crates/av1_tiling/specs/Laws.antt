@@ -29,14 +29,15 @@ CutsPlanes t =
     → Partitions (tile_plane t xdec ydec) (t.cols * t.rows)
     (superblock_columns t * superblock_side t / 2 ^ xdec) (superblock_rows t * superblock_side t / 2 ^ ydec)
 
--- the tiles cut the table of blocks, and each of motion records, into parts
+-- the tiles cut the table of blocks into parts
 abbrev pub CutsBlocks : TilingInfo → Type 0
 CutsBlocks t = Partitions (tile_blocks t) (t.cols * t.rows) (block_columns t) (block_rows t)
 
+-- the tiles cut each table of motion records into parts
 abbrev pub CutsMotion : TilingInfo → Type 0
 CutsMotion t = Partitions (tile_motion t) (t.cols * t.rows) (block_columns t) (block_rows t)
 
--- the tiles cut a table of such restoration units into parts
+-- the tiles cut a table of restoration units into parts, where the units fit the tiles
 abbrev pub CutsUnits : TilingInfo → Type 0
 CutsUnits t =
     (h_shift v_shift columns rows : ℕ)
@@ -49,17 +50,17 @@ abbrev pub CutsLayout : TilingInfo → RestorationPlaneConfig → Type 0
 CutsLayout t cfg =
     Partitions (tile_units t cfg.sb_h_shift cfg.sb_v_shift cfg.cols cfg.rows) (t.cols * t.rows) cfg.cols cfg.rows
 
--- those of a frame cut the units of each plane
+-- the tiles of a frame cut the units of each plane into parts
 pub record CutsFrameUnits (p : Parameters) : Type 0 where
   pub y : CutsLayout p.sequence.tiling (unit_layouts p).y
   pub u : CutsLayout p.sequence.tiling (unit_layouts p).u
   pub v : CutsLayout p.sequence.tiling (unit_layouts p).v
 
--- whatever its sides, sampling, tiles and quantiser
+-- the tiles of every frame, of any sides, sampling and quantiser, cut its units into parts
 abbrev pub FramesCutUnits : Type 0
 FramesCutUnits = (limit : ℕ) (p : Parameters) → IsFrame limit p → CutsFrameUnits p
 
--- the logarithms are those of the numbers of columns and rows
+-- the logarithms of a tiling are those of its numbers of columns and rows
 abbrev pub CountsByLog2 : TilingInfo → Type 0
 CountsByLog2 t = (tile_log2 1 t.cols ≡ t.tile_cols_log2) × (tile_log2 1 t.rows ≡ t.tile_rows_log2)
 
@@ -67,12 +68,12 @@ CountsByLog2 t = (tile_log2 1 t.cols ≡ t.tile_cols_log2) × (tile_log2 1 t.row
 abbrev pub PartsAreUnique : Type 0 → Type 0
 PartsAreUnique E = (cols : ℕ) (parts : List (Part E)) (old new other : List E) → HasParts cols parts old new → HasParts cols parts old other → new ≡ other
 
--- parts with no place in common, put in one after another, are all there
+-- parts with no place in common, put in one after another, are all in the table
 abbrev pub PutsHaveParts : Type 0 → Type 0
 PutsHaveParts E = (cols : ℕ) (parts : List (Part E)) (table : List E) → All (IsTablePart (length table) cols) parts → ArePartsApart parts
     → HasParts cols parts table (put_all table parts)
 
--- and in every order they make one table
+-- parts with no place in common make one table in whatever order they are put in
 abbrev pub PutsInAnyOrder : Type 0 → Type 0
 PutsInAnyOrder E = (cols : ℕ) (parts other : List (Part E)) (table : List E) → All (IsTablePart (length table) cols) parts → ArePartsApart parts
     → IsPermutation parts other → put_all table parts ≡ put_all table other

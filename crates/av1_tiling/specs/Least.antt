@@ -2,7 +2,7 @@
 -- (AV1 specification, section 5.9.16).
 use Rattle.std.specs.Prelude.{ℕ, zero, suc, Bool, ◌*◌, ◌^◌, ◌%◌, ◌<◌, ◌≤◌, nat_le, if◌then◌else◌}
 
--- the least number below n that passes, or n where none does
+-- the least number below n that passes a test, or n where none does
 unfoldable pub least : (ℕ → Bool) → ℕ → ℕ
 least p zero = zero
 least p (suc n) = let k = least p n in if p k then k else suc n
@@ -15,7 +15,7 @@ shifted size k = size * 2 ^ k % 2 ^ 64
 unfoldable pub tile_log2 : ℕ → ℕ → ℕ
 tile_log2 size target = least (λ k. nat_le target (shifted size k)) 64
 
--- k is that least shift
+-- k is the least shift by which a block size reaches the target, or 64
 pub record IsTileLog2 (size target k : ℕ) : Type 0 where
   pub below : k < 64
   pub reaches : target ≤ shifted size k

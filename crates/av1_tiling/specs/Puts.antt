@@ -36,7 +36,7 @@ tables_of number f me units blocks = record {
   blocks = blocks;
 }
 
--- three planes with a part each put back
+-- three planes, each with a part put back
 abbrev pub put_cuts : Three PlaneView → Three (Part ℤ) → Three PlaneView
 put_cuts f parts = record {
   y = record f.y { samples = put f.y.samples parts.y };
@@ -44,16 +44,17 @@ put_cuts f parts = record {
   v = record f.v { samples = put f.v.samples parts.v };
 }
 
--- tables with a part each put back
+-- tables, each with a part put back
 unfoldable pub put_motion : List (Rows MEStats) → List (Part MEStats) → List (Rows MEStats)
 put_motion [] parts = []
 put_motion (table ∷ tables) [] = table ∷ tables
 put_motion (table ∷ tables) (part ∷ parts) = put_in table part ∷ put_motion tables parts
 
--- a plane's units with a part put back, and the units of three planes
+-- a plane's units with a part put back
 abbrev pub put_unit_part : Units → Part RestorationUnit → Units
 put_unit_part u part = record u { entries = put u.entries part }
 
+-- the units of three planes with a part each put back
 abbrev pub put_units : Three Units → Three (Part RestorationUnit) → Three Units
 put_units s parts = record {
   y = put_unit_part s.y parts.y;
@@ -70,11 +71,12 @@ put_view tables v = record {
   blocks = put_in tables.blocks v.blocks;
 }
 
--- one part after another
+-- a table with one part after another put back
 unfoldable pub put_all : {E : Type 0} → List E → List (Part E) → List E
 put_all table [] = table
 put_all table (part ∷ parts) = put_all (put table part) parts
 
+-- a plane with one part after another put back
 abbrev pub coded_plane : PlaneView → List (Part ℤ) → PlaneView
 coded_plane p parts = record p { samples = put_all p.samples parts }
 
@@ -95,10 +97,11 @@ unfoldable pub coded_motion : List (Rows MEStats) → List View → List (Rows M
 coded_motion tables [] = tables
 coded_motion tables (v ∷ views) = coded_motion (put_motion tables v.ts.me_stats) views
 
--- the units with those of these views put back
+-- a plane's units with one part after another put back
 abbrev pub coded_unit_part : Units → List (Part RestorationUnit) → Units
 coded_unit_part u parts = record u { entries = put_all u.entries parts }
 
+-- the units of three planes with the units of these views put back, tile after tile
 abbrev pub coded_units : Three Units → List View → Three Units
 coded_units s views = record {
   y = coded_unit_part s.y (map (λ v. v.ts.units.y) views);

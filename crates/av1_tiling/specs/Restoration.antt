@@ -18,15 +18,15 @@ pub record Units : Type 0 where
   pub rows : ℕ
   pub entries : List RestorationUnit
 
--- those of a plane, and of all planes
+-- the units of a plane, as plain data
 abbrev pub units_of : RestorationPlane → Units
 units_of p = record { cfg = p.cfg; cols = p.units.cols; rows = p.units.rows; entries = p.units.entries }
 
--- the units of all planes
+-- the units of all planes, as plain data
 abbrev pub units_in : RestorationState → Three Units
 units_in s = record { y = units_of s.planes.y; u = units_of s.planes.u; v = units_of s.planes.v }
 
--- the row of units that stripe k takes: that of the stripe's place, or the last one
+-- the row of units that stripe k takes: the one at the stripe's place, or the last one
 abbrev pub unit_row : Units → ℕ → ℕ
 unit_row u k = min (k * u.cfg.stripe_height / u.cfg.unit_size) (u.rows - 1)
 
@@ -34,7 +34,7 @@ unit_row u k = min (k * u.cfg.stripe_height / u.cfg.unit_size) (u.rows - 1)
 abbrev pub unit_by_stripe : Units → ℕ → ℕ → RestorationUnit
 unit_by_stripe u k column = slice_index_or u.entries (unit_row u k * u.cols + min column (u.cols - 1)) no_unit
 
--- there is a unit, and the table has the sides that the layout says
+-- a plane has a unit, and its table has the sides that the layout says
 pub record HasUnits (u : Units) : Type 0 where
   pub some_cols : 0 < u.cols
   pub some_rows : 0 < u.rows
@@ -49,7 +49,7 @@ pub record HasLayout (cfg : RestorationPlaneConfig) (u : Units) : Type 0 where
   pub rows : u.rows ≡ cfg.rows
   pub entries : length u.entries ≡ cfg.cols * cfg.rows
 
--- the units of that layout that leave all samples as they are
+-- the units of a layout, all without a filter
 abbrev pub blank_units : RestorationPlaneConfig → Units
 blank_units cfg = record { cfg = cfg; cols = cfg.cols; rows = cfg.rows; entries = replicate (cfg.cols * cfg.rows) no_unit }
 
@@ -62,7 +62,7 @@ pub record AreCoeffs (cs : List ℤ) : Type 0 where
   pub c_low : neg_ℤ (pos 17) ≤ℤ slice_index_or cs 2 (pos 0)
   pub c_high : slice_index_or cs 2 (pos 0) ≤ℤ pos 46
 
--- the coefficients for the sums down a column, and for those across a row
+-- the coefficients for the sums down a column
 abbrev pub down_coeffs : List (List ℤ) → List ℤ
 down_coeffs coeffs = slice_index_or coeffs 0 []
 
@@ -83,7 +83,7 @@ IsFilter None = Unit {0}
 IsFilter (Wiener coeffs) = AreCoeffs (down_coeffs coeffs) × AreCoeffs (across_coeffs coeffs)
 IsFilter (Sgrproj set xqd) = (set < 16) × ArePassWeights xqd
 
--- a unit and a table of units that a bitstream can describe
+-- a unit that a bitstream can describe
 abbrev pub IsUnit : RestorationUnit → Type 0
 IsUnit unit = IsFilter unit.filter
 
@@ -91,7 +91,7 @@ IsUnit unit = IsFilter unit.filter
 pub record AreUnits (u : Units) : Type 0 where
   pub each : (i : ℕ) → i < length u.entries → IsUnit (slice_index_or u.entries i no_unit)
 
--- those of all planes
+-- the units of all planes are such as a bitstream can describe
 pub record AreFrameUnits (s : Three Units) : Type 0 where
   pub y : AreUnits s.y
   pub u : AreUnits s.u

@@ -2,7 +2,7 @@
 use Rattle.std.specs.Prelude.{pos, false, replicate}
 use Rattle.av1_tiling.specs.declared.segmentation_state.SegmentationState.{SegmentationState}
 
--- switched off, with no feature and all values 0
+-- the segmentation state, switched off, with no feature and all values 0
 abbrev pub default_segmentation : SegmentationState
 default_segmentation = record {
   enabled = false;

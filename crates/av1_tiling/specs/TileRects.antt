@@ -7,19 +7,23 @@ use Rattle.av1_plane.specs.Area.{decimated_tile}
 use Rattle.av1_tiling.specs.Grid.{round_up}
 use Rattle.av1_tiling.specs.declared.tiling_info.TilingInfo.{TilingInfo}
 
+-- the column of the grid in which tile n stands
 abbrev pub tile_column : TilingInfo → ℕ → ℕ
 tile_column t n = n % t.cols
 
+-- the row of the grid in which tile n stands
 abbrev pub tile_row : TilingInfo → ℕ → ℕ
 tile_row t n = n / t.cols
 
--- the sides of a superblock and of the frame in superblocks
+-- the side of a superblock in luma samples
 abbrev pub superblock_side : TilingInfo → ℕ
 superblock_side t = 2 ^ t.sb_size_log2
 
+-- how many columns of superblocks a frame has
 abbrev pub superblock_columns : TilingInfo → ℕ
 superblock_columns t = div_ceil t.frame_width (superblock_side t)
 
+-- how many rows of superblocks a frame has
 abbrev pub superblock_rows : TilingInfo → ℕ
 superblock_rows t = div_ceil t.frame_height (superblock_side t)
 
@@ -46,7 +50,7 @@ tile_luma t n =
       height = min (t.tile_height_sb * superblock_side t) (t.frame_height - y);
     }
 
--- the luma samples of a view: those of a tile with this first superblock and these luma sides, rounded up to whole superblocks
+-- the luma samples that a tile's view has: the tile's own, rounded up to whole superblocks
 abbrev pub samples_rect : ℕ × ℕ → (sb_size_log2 width height : ℕ) → TileRect
 samples_rect superblock sb_size_log2 width height =
     let side = 2 ^ sb_size_log2 in
@@ -60,14 +64,15 @@ tile_samples t n = samples_rect (tile_superblock t n) t.sb_size_log2 (tile_luma 
 abbrev pub tile_plane : TilingInfo → ℕ → ℕ → ℕ → TileRect
 tile_plane t xdec ydec n = decimated_tile (tile_samples t n) xdec ydec
 
--- the sides of the tables of blocks and of motion, whose units are 4 by 4 luma samples
+-- how many columns the tables of blocks and of motion records have, of 4 luma samples each
 abbrev pub block_columns : TilingInfo → ℕ
 block_columns t = t.frame_width / 4
 
+-- how many rows the tables of blocks and of motion records have, of 4 luma samples each
 abbrev pub block_rows : TilingInfo → ℕ
 block_rows t = t.frame_height / 4
 
--- the tile's blocks: those of its superblocks, cut to the table
+-- the blocks of a tile's superblocks, cut to the table
 abbrev pub tile_blocks : TilingInfo → ℕ → TileRect
 tile_blocks t n =
     let side = superblock_side t / 4 in
@@ -90,8 +95,8 @@ motion_rect superblock sb_size_log2 width height =
 abbrev pub tile_motion : TilingInfo → ℕ → TileRect
 tile_motion t n = motion_rect (tile_superblock t n) t.sb_size_log2 (tile_luma t n).width (tile_luma t n).height
 
--- the units of a tile with this first superblock and so many superblocks, in a table of units of these sides; a unit has
--- 2 ^ shift superblocks a side
+-- the units of a tile with this first superblock and these numbers of superblocks, in a table of units
+-- of these sides; a unit has 2 ^ shift superblocks a side
 abbrev pub units_rect : (superblock superblocks shifts sides : ℕ × ℕ) → TileRect
 units_rect superblock superblocks shifts sides =
     let x = min (superblock.0 / 2 ^ shifts.0) sides.0 in

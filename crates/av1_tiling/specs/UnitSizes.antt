@@ -11,56 +11,57 @@ use Rattle.av1_tiling.specs.declared.restoration_plane.RestorationPlaneConfig.{R
 use Rattle.av1_tiling.specs.Parameters.{Parameters}
 use Rattle.av1_tiling.specs.Restoration.{Units, HasLayout, blank_units}
 
--- by which power of two the chroma planes are narrower and lower than luma; without chroma their units are laid out as luma's
+-- the powers of two by which chroma is narrower and lower than luma; 0 where there is no chroma
 abbrev pub shifts : Parameters → ℕ × ℕ
 shifts p = unwrap_or (decimation p.sequence.chroma_sampling) (0, 0)
 
--- chroma is halved both ways
+-- whether chroma is halved both ways
 abbrev pub is_420 : ℕ × ℕ → Bool
 is_420 d = d.1 == 1
 
--- the logarithm of a superblock's side
+-- the logarithm of the side of a frame's superblocks
 abbrev pub superblock_log2 : Parameters → ℕ
 superblock_log2 p = if p.sequence.use_128x128_superblock then 7 else 6
 
--- units of 256, 128 or 64 samples, the larger the coarser the quantiser; none is smaller than a superblock
+-- how often 256 is halved for a unit's side: the finer the quantiser, the smaller the unit
 abbrev pub base_shift : Parameters → ℕ
 base_shift p =
     if nat_lt 200 p.base_q_idx then 0
     else if nat_lt 160 p.base_q_idx || p.sequence.use_128x128_superblock then 1 else 2
 
--- a side of which at most half a unit is left beside whole units, so that the last unit is stretched over it
+-- whether at most half a unit is left of a side, so that the last unit is stretched
 abbrev pub is_stretched_side : ℕ → ℕ → Bool
 is_stretched_side unit side = nat_le ((side / 2 - 1) % unit) (unit / 2)
 
--- a frame with such a side in its chroma planes
+-- whether a unit is stretched in a frame's chroma planes
 abbrev pub is_stretched : Parameters → ℕ → Bool
 is_stretched p unit = is_stretched_side unit p.width || is_stretched_side unit p.height
 
--- a chroma unit is half as large as a luma unit where that is the smallest, and where it avoids a stretched one
+-- by which power of two a chroma unit is smaller: 1 at the smallest size and to avoid stretching, else 0
 abbrev pub chroma_shift : Parameters → ℕ
 chroma_shift p =
     let unit = 256 / 2 ^ base_shift p in
     if base_shift p == 2 || (is_stretched p unit && not (is_stretched p (unit / 2))) then 1 else 0
 
--- the sizes by the quantiser
+-- the sizes of units by the quantiser
 abbrev pub large_sizes : Parameters → UnitSizes
 large_sizes p =
     let unit = 256 / 2 ^ base_shift p in
     record { luma = unit; chroma = if is_420 (shifts p) then unit / 2 ^ chroma_shift p else unit }
 
--- those of a superblock, chroma's halved with the planes
+-- the sizes of units of one superblock, in chroma halved with the planes
 abbrev pub small_sizes : Parameters → UnitSizes
 small_sizes p =
     let side = 2 ^ superblock_log2 p in
     record { luma = side; chroma = if is_420 (shifts p) then side / 2 else side }
 
--- large units are a choice of the sequence, and only where units are coded
+-- the wanted sizes: large units are a choice of the sequence, made only where units are coded
 abbrev pub wanted_sizes : Parameters → UnitSizes
 wanted_sizes p =
     if p.sequence.enable_large_lru && p.sequence.enable_restoration then large_sizes p else small_sizes p
 
--- kept so small that a tile has whole units: as many superblocks as the greatest power of two that divides its sides
+-- a unit's side, kept so small that a tile has whole units: at most as many superblocks as the
+-- greatest power of two that divides the tile's sides
 abbrev pub kept_in_tiles : Parameters → ℕ × ℕ → ℕ → ℕ
 kept_in_tiles p d unit =
     let side = 2 ^ superblock_log2 p in
@@ -68,7 +69,7 @@ kept_in_tiles p d unit =
     min (min unit (side / 2 ^ d.0 * 2 ^ trailing_zeros w64 t.tile_width_sb))
     (side / 2 ^ d.1 * 2 ^ trailing_zeros w64 t.tile_height_sb)
 
--- a frame of one tile keeps the sizes that it wants
+-- the sizes that the tiles allow; a frame of one tile keeps the wanted ones
 abbrev pub tile_sizes : Parameters → UnitSizes
 tile_sizes p =
     let wanted = wanted_sizes p in
@@ -86,7 +87,7 @@ unit_sizes p =
     let least = min kept.luma kept.chroma in
     if is_420 (shifts p) then kept else record { luma = least; chroma = least }
 
--- how many units a side has: a rest of less than half a unit belongs to the last one
+-- how many units a side has; a rest of less than half a unit belongs to the last one
 abbrev pub unit_count : ℕ → ℕ → ℕ
 unit_count unit side = max 1 ((side + unit / 2) / unit)
 
@@ -94,7 +95,8 @@ unit_count unit side = max 1 ((side + unit / 2) / unit)
 abbrev pub unit_log2 : ℕ → ℕ
 unit_log2 unit = if unit == 256 then 8 else if unit == 128 then 7 else if unit == 64 then 6 else 5
 
--- the layout of units of this side in a plane that is smaller than luma by these shifts; a unit may have any filter
+-- the layout of units of this side in a plane that is smaller than luma by these shifts;
+-- a unit may have any filter
 abbrev pub unit_layout : Parameters → ℕ → ℕ × ℕ → RestorationPlaneConfig
 unit_layout p unit d = record {
   lrf_type = 1;
@@ -108,7 +110,7 @@ unit_layout p unit d = record {
   rows = unit_count unit (visible p.height d.1);
 }
 
--- those of all planes
+-- the layouts of the units of all planes
 abbrev pub unit_layouts : Parameters → Three RestorationPlaneConfig
 unit_layouts p =
     let sizes = unit_sizes p in

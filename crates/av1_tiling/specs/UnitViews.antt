@@ -11,10 +11,11 @@ use Rattle.av1_block.specs.Writing.{entries_under, place_under}
 use Rattle.av1_tiling.specs.declared.unit_side.UnitSide.{UnitSide}
 use Rattle.av1_tiling.specs.declared.restoration_plane.RestorationPlaneConfig.{RestorationPlaneConfig}
 
--- the coefficients and weights that the first units of a tile are coded against
+-- the Wiener coefficients that the first units of a tile are coded against
 abbrev pub wiener_start : List (List ℤ)
 wiener_start = let taps = pos 3 ∷ negsuc 6 ∷ pos 15 ∷ [] in taps ∷ taps ∷ []
 
+-- the self-guided weights that the first units of a tile are coded against
 abbrev pub sgrproj_start : List ℤ
 sgrproj_start = negsuc 31 ∷ pos 31 ∷ []
 
@@ -23,14 +24,15 @@ pub record HasShifts (cfg : RestorationPlaneConfig) : Type 0 where
   pub across : cfg.sb_h_shift ≤ 8
   pub down : cfg.sb_v_shift ≤ 8
 
--- the rows of a view with so many columns, seen from above, and its columns, seen from the side
+-- a view's units across: how many columns, of how many superblocks
 abbrev pub across_side : RestorationPlaneConfig → ℕ → UnitSide
 across_side cfg cols = record { superblocks = cfg.sb_cols; shift = cfg.sb_h_shift; units = cols }
 
+-- a view's units down: how many rows, of how many superblocks
 abbrev pub down_side : RestorationPlaneConfig → ℕ → UnitSide
 down_side cfg rows = record { superblocks = cfg.sb_rows; shift = cfg.sb_v_shift; units = rows }
 
--- superblock s, one of the frame's, lies past the units of a side: the last of them is stretched over it
+-- whether superblock s lies past the units of a side, so that the last unit is stretched over it
 abbrev pub is_past : UnitSide → ℕ → Bool
 is_past side s = nat_lt s side.superblocks && nat_le side.units (s / 2 ^ side.shift)
 
@@ -38,7 +40,8 @@ is_past side s = nat_lt s side.superblocks && nat_le side.units (s / 2 ^ side.sh
 abbrev pub serving_unit : UnitSide → ℕ → ℕ
 serving_unit side s = if is_past side s then s / 2 ^ side.shift - 1 else s / 2 ^ side.shift
 
--- that unit where the side has it; none for a superblock past its units unless the last one may be stretched
+-- the unit that serves superblock s, where the side has it; none for a superblock past the units,
+-- unless the last one may be stretched
 unfoldable pub unit_along : UnitSide → ℕ → Bool → Option ℕ
 unit_along side s stretch =
     if is_past side s && not stretch then None
@@ -49,24 +52,24 @@ pub record Serves (side : UnitSide) (s unit : ℕ) : Type 0 where
   pub inside : unit < side.units
   pub nearest : unit ≡ min (s / 2 ^ side.shift) (side.units - 1)
 
--- both where both are
+-- a pair of two values, where there are both
 abbrev pub both : Option ℕ → Option ℕ → Option (ℕ × ℕ)
 both None y = None
 both (Some x) None = None
 both (Some x) (Some y) = Some (x, y)
 
--- the column and row of a superblock's unit in a view with so many columns and rows
+-- the column and row of a superblock's unit in a view of these sides
 abbrev pub unit_index : RestorationPlaneConfig → ℕ × ℕ → SuperBlockOffset → Bool → Option (ℕ × ℕ)
 unit_index cfg sides sbo stretch =
     both (unit_along (across_side cfg sides.0) sbo.x stretch) (unit_along (down_side cfg sides.1) sbo.y stretch)
 
--- how far apart the units of two superblocks stand
+-- how many columns and rows the units of two superblocks stand apart
 abbrev pub index_difference : Option (ℕ × ℕ) → Option (ℕ × ℕ) → Option (ℕ × ℕ)
 index_difference None later = None
 index_difference (Some first) None = None
 index_difference (Some first) (Some later) = Some (later.0 - first.0, later.1 - first.1)
 
--- along one side: superblock s of a tile, the frame's from `first` on, is the last of its unit or of the frame
+-- whether, along one side, superblock s of a tile is the last of its unit or of the frame
 abbrev pub is_last_along : UnitSide → (frame_superblocks first s : ℕ) → Bool
 is_last_along side frame_superblocks first s =
     (s % 2 ^ side.shift == 2 ^ side.shift - 1) && nat_lt (s / 2 ^ side.shift) side.units
@@ -80,11 +83,11 @@ view_sides v = (view_cols v, view_rows v)
 abbrev pub unit_at : TileView RestorationUnit → ℕ × ℕ → RestorationUnit
 unit_at v place = slice_index_or (view_entries v) (place.1 * view_step v + place.0) no_unit
 
--- so of a view for writing
+-- the unit at a column and row of a view for writing
 abbrev pub unit_under : TileViewMut RestorationUnit → ℕ × ℕ → RestorationUnit
 unit_under v place = slice_index_or (entries_under v) (place_under v place.0 place.1) no_unit
 
--- along both sides it is
+-- whether a superblock is the last of its unit or of the frame along both sides
 abbrev pub is_last_superblock : RestorationPlaneConfig → ℕ × ℕ → (frame : ℕ × ℕ) → (first s : SuperBlockOffset) → Bool
 is_last_superblock cfg sides frame first s =
     is_last_along (across_side cfg sides.0) frame.0 first.x s.x && is_last_along (down_side cfg sides.1) frame.1 first.y s.y

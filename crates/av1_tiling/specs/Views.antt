@@ -20,9 +20,11 @@ pub record PlaneView : Type 0 where
   pub cfg : PlaneConfig
   pub samples : List ℤ
 
+-- a plane as plain data
 abbrev pub view_plane : {X : Type 0} → (X → ℤ) → Plane X → PlaneView
 view_plane number p = record { cfg = p.cfg; samples = map number p.samples.items }
 
+-- the planes of a frame as plain data
 abbrev pub view_frame : {X : Type 0} → (X → ℤ) → Frame X → Three PlaneView
 view_frame number f = record { y = view_plane number f.planes.y; u = view_plane number f.planes.u; v = view_plane number f.planes.v }
 
@@ -30,7 +32,7 @@ view_frame number f = record { y = view_plane number f.planes.y; u = view_plane 
 abbrev pub IsFull : PlaneView → Type 0
 IsFull p = length p.samples ≡ p.cfg.stride * p.cfg.alloc_height
 
--- each plane of a frame has
+-- each plane of a frame has as many samples as its layout says
 pub record AreFull (f : Three PlaneView) : Type 0 where
   pub y : IsFull f.y
   pub u : IsFull f.u
@@ -46,16 +48,19 @@ pub record Part (E : Type 0) : Type 0 where
   pub table_cols : ℕ
   pub entries : List E
 
+-- a cut as plain data
 abbrev pub view_cut : {E : Type 0} → Cut E → Part E
 view_cut c = record { rect = cut_rect c; table_cols = cut_table_cols c; entries = cut_entries c }
 
--- the same of samples, as numbers
+-- a cut of samples as plain data, its samples as numbers
 abbrev pub view_samples : {X : Type 0} → (X → ℤ) → Cut X → Part ℤ
 view_samples number c = record { rect = cut_rect c; table_cols = cut_table_cols c; entries = map number (cut_entries c) }
 
+-- the cuts of the restoration units of three planes as plain data
 abbrev pub view_units : Three (Cut RestorationUnit) → Three (Part RestorationUnit)
 view_units t = record { y = view_cut t.y; u = view_cut t.u; v = view_cut t.v }
 
+-- the cuts of the samples of three planes as plain data
 abbrev pub view_cuts : {X : Type 0} → (X → ℤ) → Three (Cut X) → Three (Part ℤ)
 view_cuts number t = record { y = view_samples number t.y; u = view_samples number t.u; v = view_samples number t.v }
 
@@ -83,14 +88,14 @@ pub record TileState : Type 0 where
   pub units : Three (Part RestorationUnit)
   pub me_stats : List (Part MEStats)
 
--- that and the tile's blocks, out of a table with these sides
+-- what one tile is coded from: its part of a frame's state, and its blocks out of a table of these sides
 pub record View : Type 0 where
   pub ts : TileState
   pub blocks : Part Block
   pub frame_cols : ℕ
   pub frame_rows : ℕ
 
--- one of three planes, the last for every number from 2 on
+-- one of three planes; the last for every number from 2 on
 abbrev pub plane_at : {X : Type 0} → Three X → ℕ → X
 plane_at t pli = if pli == 0 then t.y else if pli == 1 then t.u else t.v
 
@@ -112,7 +117,7 @@ with_units t pli units =
 abbrev pub with_blocks : View → List Block → View
 with_blocks v blocks = record v { blocks = part_with_entries v.blocks blocks }
 
--- b is a rectangle of the same place and size as a
+-- b has the rectangle of a and as many entries
 pub record SameRect {E : Type 0} (a b : Part E) : Type 0 where
   pub rect : b.rect ≡ a.rect
   pub table_cols : b.table_cols ≡ a.table_cols

@@ -20,7 +20,7 @@ pub struct DeblockState {
 impl Default for DeblockState {
     ghost is_default = { λ state. state ≡ default_deblock };
 
-    /// All zero and false.
+    /// A state whose numbers are all zero and whose switches are all off.
     fn default() -> DeblockState {
         DeblockState {
             levels: [0; 4],

@@ -30,12 +30,12 @@ pub fn frames_cut_units()
     ensures { FramesCutUnits }
 {}
 
-/// The logarithms of columns and rows are those of their numbers.
+/// A tiling's logarithms are the logarithms of its numbers of columns and rows.
 pub fn counts_have_logarithms()
     ensures { ForTilings CountsByLog2 }
 {}
 
-/// What a table has once parts were put into it is said place by place by at most one list.
+/// At most one list of entries has given parts in their rectangles and a table's entries elsewhere.
 pub fn parts_are_unique<E>()
     ensures { PartsAreUnique E }
 {}

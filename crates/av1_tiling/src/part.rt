@@ -143,7 +143,7 @@ pub(crate) fn units_rect(
     }
 }
 
-// The part of a plane's units that a tile of so many superblocks covers.
+// The part of a plane's units that a tile of these superblocks covers.
 fn cut_plane_units(
     alloc: Global,
     plane: &RestorationPlane,
@@ -161,7 +161,7 @@ fn cut_plane_units(
     Cut::take(alloc, plane.units.entries(), plane.units.cols, rect)
 }
 
-/// The parts of a frame's units that a tile of so many superblocks covers.
+/// The parts of a frame's units that a tile of these superblocks covers.
 pub(crate) fn cut_units(
     alloc: Global,
     state: &RestorationState,

@@ -12,7 +12,7 @@ use crate::tile_context::TileContextMut;
 use av1_block::{Cut, FrameBlocks, FrameMEStats, MEStats, RestorationUnit, Table};
 use av1_plane::{Frame, Pixel, Plane, Three};
 
-// Puts a part of a plane back into it.
+// Puts a part of a plane back into the plane.
 #[tactic(auto, using(crate::proofs::PutBack::puts))]
 fn put_plane<T: Pixel>(plane: &mut Plane<T>, cut: &Cut<T>)
     requires { PartLies (length (view_plane T.number plane.old).samples)
@@ -40,7 +40,7 @@ pub(crate) fn put_frame<T: Pixel>(frame: &mut Frame<T>, cuts: &Three<Cut<T>>)
     put_plane(&mut frame.planes.v, &cuts.v);
 }
 
-// Puts a part of a table back into it.
+// Puts a part of a table back into the table.
 pub(crate) fn put_table<E: Copy>(table: &mut Table<E>, cut: &Cut<E>)
     requires { PartLies (length (table_entries table.old)) (view_cut cut.now) }
     ensures { table.new ≡ put_in table.old (view_cut cut.now) }

@@ -51,7 +51,7 @@ impl<T: Pixel> Model for ReferenceFrame<T> {
 }
 
 impl<T: Pixel> ReferenceFrame<T> {
-    /// The same reference frame, which shares the planes.
+    /// A copy of the reference frame, which shares its planes.
     pub fn try_clone(&self, alloc: Global) -> Result<ReferenceFrame<T>, OutOfMemory>
         ensures { IfOk result (λ copy. copy ≡ self.now) }
     {
@@ -71,7 +71,7 @@ impl<T: Pixel> ReferenceFrame<T> {
     }
 }
 
-// Tables with the same records.
+// Copies of the tables of motion records.
 fn copied_tables(alloc: Global, tables: &[FrameMEStats]) -> Result<Vec<FrameMEStats>, OutOfMemory>
     ensures { IfOk result (λ copies. copies.items ≡ tables.now) }
 {

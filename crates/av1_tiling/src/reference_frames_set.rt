@@ -44,7 +44,7 @@ impl<T: Pixel> ReferenceFramesSet<T> {
         Ok(ReferenceFramesSet { frames, deblock })
     }
 
-    /// The same slots, which share their frames.
+    /// Copies of the slots, which share their frames.
     pub fn try_clone(&self, alloc: Global) -> Result<ReferenceFramesSet<T>, OutOfMemory>
         ensures { IfOk result (λ copy. copy ≡ self.now) }
     {
@@ -55,7 +55,7 @@ impl<T: Pixel> ReferenceFramesSet<T> {
     }
 }
 
-// The same slots, which share their frames.
+// Copies of the slots, which share their frames.
 fn shared_frames<T: Pixel>(
     alloc: Global,
     frames: &[Option<Arc<ReferenceFrame<T>>>],
@@ -70,7 +70,7 @@ fn shared_frames<T: Pixel>(
     Ok(copies)
 }
 
-// The same slot, which shares its frame.
+// A copy of a slot, which shares its frame.
 fn shared_frame<T: Pixel>(
     slot: &Option<Arc<ReferenceFrame<T>>>,
 ) -> Result<Option<Arc<ReferenceFrame<T>>>, OutOfMemory>

@@ -77,7 +77,7 @@ impl RestorationPlane {
         Ok(RestorationPlane { cfg, units })
     }
 
-    /// The same units, laid out alike.
+    /// A copy of the units and of their layout.
     pub fn try_clone(&self, alloc: Global) -> Result<RestorationPlane, OutOfMemory>
         ensures { IfOk result (λ copy. units_of copy ≡ units_of self.now) }
     {

@@ -42,7 +42,7 @@ impl RestorationState {
         })
     }
 
-    /// The same units of all planes.
+    /// A copy of the units of all planes.
     pub fn try_clone(&self, alloc: Global) -> Result<RestorationState, OutOfMemory>
         ensures { IfOk result (λ copy. units_in copy ≡ units_in self.now) }
     {

@@ -14,7 +14,7 @@ pub struct SegmentationState {
 impl Default for SegmentationState {
     ghost is_default = { λ state. state ≡ default_segmentation };
 
-    /// All zero and false.
+    /// A state whose numbers are all zero and whose switches are all off.
     fn default() -> SegmentationState {
         SegmentationState {
             enabled: false,

@@ -43,7 +43,7 @@ impl TileLimits {
 }
 
 /// The least logarithm of tiles of which none has more than `MAX_TILE_RATE` samples a second,
-/// at `num / den` frames of so many samples.
+/// at `num / den` frames a second of `samples` samples each.
 pub fn rate_log2(samples: usize, num: u32, den: u32) -> usize
     requires samples { samples ≤ 2 ^ 32 }
     requires rate { 0 < den }

@@ -85,7 +85,7 @@ impl<'a> TileRestorationPlane<'a> {
         Some(&self.units.row(y)[x])
     }
 
-    /// How many columns and rows the unit of superblock `base + offset` stands past that of `base`.
+    /// How many columns and rows the unit of superblock `base + offset` stands past the unit of `base`.
     pub fn restoration_unit_offset(
         &self,
         base: TileSuperBlockOffset,
@@ -116,8 +116,8 @@ impl<'a> TileRestorationPlane<'a> {
         y * self.units.cols() + x
     }
 
-    /// Whether a superblock is the last, in both directions, of those of its unit that the tile has,
-    /// or of the frame's.
+    /// Whether a superblock is the last one, in both directions, of its unit inside the tile,
+    /// or of the frame.
     pub fn restoration_unit_last_sb_for_rdo<T: Pixel>(
         &self,
         fi: &FrameInvariants<T>,

@@ -54,7 +54,7 @@ impl<'a> TileRestorationPlaneMut<'a> {
         }
     }
 
-    /// The same units, for reading.
+    /// The view's units, for reading.
     pub fn as_const(&self) -> TileRestorationPlane<'_>
         requires { IsPlaced self.now.units }
         ensures cfg { result.rp_cfg.now ≡ self.now.rp_cfg.now }

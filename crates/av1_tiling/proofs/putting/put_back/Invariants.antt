@@ -3,6 +3,7 @@ use Rattle.av1_tiling.specs.Coded.{ViewLies}
 use Rattle.av1_tiling.specs.Puts.{tables_of, coded_tables}
 use Rattle.av1_tiling.proofs.putting.put_back.Given as goal
 
+-- The first views are put back, and all views still belong to the tables.
 abbrev pub invariant-loop-context : goal.invariant-loop-context
 invariant-loop-context g l = record {
   coded :
