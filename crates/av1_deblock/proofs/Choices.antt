@@ -8,16 +8,16 @@ use Rattle.av1_deblock.specs.Line.{sample, sum_below}
 use Rattle.av1_deblock.specs.Errors.{running, IsTally, IsLowestLeast}
 use Rattle.av1_deblock.specs.Choice.{HasSums, total, IsLowestSum}
 
--- a running sum by the one before it
+-- a running sum is the sum before an entry and the entry
 pub running_is : (es : List ℤ) (level : ℕ) → running es level ≡ sum_below level (sample es) +ℤ get_or es level (pos 0)
 unfolding sum_below
 running_is es level = refl
 
--- a running sum as a sum of one more entry
+-- a running sum up to a level is the sum of one entry more
 pub running_next : (es : List ℤ) (level : ℕ) → running es level ≡ sum_below (level + 1) (sample es)
 running_next es level = rw add-one refl
 
--- no entry sums to 0
+-- the sum of no entries is 0
 pub sums_none : (es : List ℤ) → pos 0 ≡ sum_below 0 (sample es)
 unfolding sum_below
 sums_none es = refl
@@ -26,23 +26,23 @@ sums_none es = refl
 le_same : (x : ℤ) → x ≤ℤ x
 le_same x = omega (arith, ints)
 
--- less and then at most is at most
+-- a number that is less than a number at most z is at most z
 lt_le : (x y z : ℤ) → x <ℤ y → y ≤ℤ z → x ≤ℤ z
 lt_le x y z h k = omega (arith, ints)
 
--- less and then at most is less
+-- a number that is less than a number at most z is less than z
 lt_lt : (x y z : ℤ) → x <ℤ y → y ≤ℤ z → x <ℤ z
 lt_lt x y z h k = omega (arith, ints)
 
--- what the test on two sums says where it holds
+-- a test for less that holds of two sums says that the first is less
 pub below_of : (x y : ℤ) → lt_z x y ≡ true → x <ℤ y
 below_of x y h = grind (arith, ints)
 
--- what it says where it fails
+-- a test for less that fails of two sums says that the second is no greater
 pub not_below : (x y : ℤ) → lt_z x y ≡ false → y ≤ℤ x
 not_below x y h = grind (arith, ints)
 
--- of one level the first is the lowest
+-- the level 0 is the lowest of one level
 pub lowest_first : (a b : List ℤ) → IsLowestSum a b 1 0
 lowest_first a b = record {
   inside = omega arith;
@@ -90,7 +90,7 @@ tally_sums f es h = record {
 le_of : (a b c d : ℕ) → (pos a +ℤ pos b) ≤ℤ (pos c +ℤ pos d) → a + b ≤ c + d
 le_of a b c d h = omega (arith, ints)
 
--- the same for less
+-- a sum of two numbers that is less as an integer is less as a number
 lt_of : (a b c d : ℕ) → (pos a +ℤ pos b) <ℤ (pos c +ℤ pos d) → a + b < c + d
 lt_of a b c d h = omega (arith, ints)
 

@@ -10,32 +10,31 @@ use Rattle.av1_deblock.specs.Line.{distance, before, after}
 use Rattle.std.proofs.Common.{◌≢◌, inl, inr, subst, lit<, ◌-◌, max, min, Bool, if◌then◌else◌, true, false, sym, ◌∙◌, ◌/◌}
 use Rattle.av1_deblock.proofs.Thresholds.{capped, distance_by_level}
 
--- no place has the error 0
+-- the sum over no places is 0
 pub squares_none : (xs ys : List ℤ) (from : ℕ) → squares xs ys from 0 ≡ 0
 unfolding squares
 squares_none xs ys from = refl
 
--- one more place
+-- one place more adds its squared distance to the sum
 pub squares_more : (xs ys : List ℤ) (from n : ℕ) → squares xs ys from (n + 1) ≡ squares xs ys from n + square_at xs ys (from + n)
 unfolding squares
 squares_more xs ys from n = rw add-one refl
 
 pub ruleset sums = (squares_none, squares_more)
 
--- of no step the greatest is 0
+-- the greatest of no steps is 0
 pub step_none : (xs : List ℤ) (half : ℕ) → greatest_step xs half 0 ≡ 0
 unfolding greatest_step
 step_none xs half = refl
 
--- one more step
+-- one step more raises the greatest step to its own size, where its own is greater
 pub step_more : (xs : List ℤ) (half n : ℕ) → greatest_step xs half (n + 1) ≡ max (greatest_step xs half n) (max (distance (before xs half (n + 1)) (before xs half n)) (distance (after xs half (n + 1)) (after xs half n)))
 unfolding greatest_step
--- one more step
 step_more xs half n = let e : n + 1 ≡ suc n = omega arith in ap (greatest_step xs half) e
 
 pub ruleset steps = (step_none, step_more)
 
--- fewer bits
+-- numbers below a bound are below every greater bound
 pub below_wider : (a b : ℕ) (xs : List ℤ) → a ≤ b → Below a xs → Below b xs
 below_wider a b xs l h = record { each = λ k d i. let r = h.each k d i in (r.0, grind arith) }
 
@@ -55,18 +54,18 @@ profile_from s size xs ys p k a f b l c la lb lc = record {
   };
 }
 
--- a line of which one of two is taken
+-- the error of a line that is one of two is one of their errors
 pub errors_of : (n : ℕ) (b : Bool) (w m ys : List ℤ) (e f r : ℕ) → (b ≡ true → e ≡ line_distance n w ys) → f ≡ line_distance n m ys → r ≡ (if b then e else f) → r ≡ line_distance n (if b then w else m) ys
 errors_of n true w m ys e f r he hf h = h ∙ he refl
 errors_of n false w m ys e f r he hf h = h ∙ hf
 
 -- profiles, line by line
 
--- the profiles of no line
+-- the marks are the profiles of no line yet
 pub profiles_none : (s size : ℕ) (cells source : List ℤ) (marks : List ℕ) → length marks ≡ 20 → HasProfiles s size 0 cells source marks
 profiles_none s size cells source marks h = record { long = h; each = λ k l. absurd (omega arith) }
 
--- one more line's profile
+-- one line more adds its profile to those of the lines before
 pub profiles_more : (s size n : ℕ) (cells source : List ℤ) (old new : List ℕ) (p : Profile) → n < 4 → length new ≡ 20 → profile_of new n ≡ p →
     ((i : ℕ) → i < 4 → i ≢ n → profile_of new i ≡ profile_of old i) → IsProfile s size (column cells n size) (column source n size) p → HasProfiles s size n cells source old → HasProfiles s size (n + 1) cells source new
 profiles_more s size n cells source old new p l h e f g k = record {

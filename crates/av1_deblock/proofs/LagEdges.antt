@@ -1,4 +1,4 @@
--- The edges between the blocks of a plane are an edge set of it.
+-- The edges between the blocks of a plane are an edge set of the plane.
 use Rattle.std.specs.Prelude.{Some, None}
 use Rattle.std.proofs.Common.{◌≡◌, ◌==◌, ℕ, ◌*◌, ◌/◌, ◌<◌, ◌≤◌, Bool, true, false, if◌then◌else◌, refl, subst, arith}
 use Rattle.std.proofs.lemmas.Bool.Decides.{nat_tests}
@@ -12,13 +12,13 @@ use Rattle.av1_deblock.specs.Laws.{EdgesInRounded}
 use Rattle.av1_deblock.proofs.EdgeFits.{stands_fits, edge_is_sound}
 use Rattle.av1_deblock.proofs.Planes.{grid_fits, grid_width, grid_height}
 
--- what is known of a filter that is found
+-- a filter that is found has passed both tests and is the filter that they lead to
 found : (a b : Bool) (x f : EdgeFilter) → (if a then None else if b then Some x else None) ≡ Some f → (a ≡ false) × (b ≡ true) × (x ≡ f)
 found true b x f h = absurd (cc)
 found false true x f h = (refl, refl, cc)
 found false false x f h = absurd (cc)
 
--- a place that is not the first
+-- a place that isn't 0 is greater than 0
 not_first : (p : ℕ) → (p == 0) ≡ false → 0 < p
 not_first p h = grind (arith, nat_tests)
 
@@ -28,7 +28,7 @@ record Fits (g : Grid) (u v : ℕ) (f : EdgeFilter) : Type 0 where
   half : f.size / 2 ≤ 4 * place g u v
   inside : LiesInside (4 * rounded_cols g) (4 * rounded_rows g) (edge_of g.vertical u v f)
 
--- the filter that stands at a place
+-- the filter that stands at a place fits the place
 filter_fits : (g : Grid) (level : Block → Block → ℕ) (t : BlockTable) (u v : ℕ) (f : EdgeFilter) → GridFits g → u < g.cols → v < g.rows → filter_at g level t u v ≡ Some f → Fits g u v f
 filter_fits g level t u v f fits lu lv h =
     let now = current g t u v in

@@ -35,15 +35,15 @@ record StandsAbove (step u v : ℕ) (e : Edge) : Type 0 where
   size : e.size ≤ 14
   inside : e.x + 4 ≤ step
 
--- vertical edges, each before its column
+-- vertical edges that each stand before their column, inside the plane
 record IsVerticalSet (step cols rows : ℕ) (f : ℕ → ℕ → Option Edge) : Type 0 where
   each : (u v : ℕ) (e : Edge) → u < cols → v < rows → f u v ≡ Some e → StandsBefore step u v e
 
--- horizontal edges, each above its row
+-- horizontal edges that each stand above their row, inside the plane
 record IsHorizontalSet (step cols rows : ℕ) (f : ℕ → ℕ → Option Edge) : Type 0 where
   each : (u v : ℕ) (e : Edge) → u < cols → v < rows → f u v ≡ Some e → StandsAbove step u v e
 
--- two edges without a common sample
+-- two edges have no sample in common
 record AreApart (origin step : ℕ) (e f : Edge) : Type 0 where
   each : (k j l i : ℕ) → k < 4 → j < e.size → l < 4 → i < f.size → edge_place origin step e k j ≢ edge_place origin step f l i
 
@@ -54,7 +54,7 @@ gather_past : (o s : ℕ) (xs : List ℤ) (e : Edge) (k n : ℕ) (f : Edge) (l :
     gathered o s (scattered o s xs f l ys m) e k n ≡ gathered o s xs e k n
 gather_past o s xs e k n f l ys m h = gathered_same o s (scattered o s xs f l ys m) xs e k n (λ j lj. scattered_off o s xs f l ys m (edge_place o s e k j) (λ i li. h j i lj li))
 
--- a sample is written before or after a line apart from it
+-- a sample is written before or after a line that doesn't have it
 set_past : (o s : ℕ) (xs : List ℤ) (f : Edge) (l : ℕ) (ys : List ℤ) (m p : ℕ) (z : ℤ) → ((i : ℕ) → i < m → p ≢ edge_place o s f l i) →
     set (scattered o s xs f l ys m) p z ≡ scattered o s (set xs p z) f l ys m
 unfolding scattered
@@ -63,7 +63,7 @@ set_past o s xs f l ys (suc m) p z h =
     set_comm (scattered o s xs f l ys m) (edge_place o s f l m) p (get_or ys m (pos 0)) z (λ e. h m (omega arith) (sym e))
     ∙ ap (λ zs. set zs (edge_place o s f l m) (get_or ys m (pos 0))) (set_past o s xs f l ys m p z (λ i li. h i (omega arith)))
 
--- two lines apart are written in either order
+-- two lines without a common sample are written in either order
 scatter_past : (o s : ℕ) (xs : List ℤ) (e : Edge) (k : ℕ) (zs : List ℤ) (n : ℕ) (f : Edge) (l : ℕ) (ys : List ℤ) (m : ℕ) → ((j i : ℕ) → j < n → i < m → edge_place o s e k j ≢ edge_place o s f l i) →
     scattered o s (scattered o s xs f l ys m) e k zs n ≡ scattered o s (scattered o s xs e k zs n) f l ys m
 unfolding scattered
@@ -72,7 +72,7 @@ scatter_past o s xs e k zs (suc n) f l ys m h =
     ap (λ ws. set ws (edge_place o s e k n) (get_or zs n (pos 0))) (scatter_past o s xs e k zs n f l ys m (λ j i lj li. h j i (omega arith) li))
     ∙ set_past o s (scattered o s xs e k zs n) f l ys m (edge_place o s e k n) (get_or zs n (pos 0)) (λ i li. h n i (omega arith) li)
 
--- two lines apart are filtered in either order
+-- two lines without a common sample are filtered in either order
 line_past : (bd o s : ℕ) (xs : List ℤ) (e : Edge) (k : ℕ) (f : Edge) (l : ℕ) → k < 4 → l < 4 → AreApart o s e f →
     with_line bd o s (with_line bd o s xs f l) e k ≡ with_line bd o s (with_line bd o s xs e k) f l
 unfolding with_line
@@ -83,7 +83,7 @@ line_past bd o s xs e k f l lk ll h =
     ∙ scatter_past o s xs e k zs e.size f l ys f.size (λ j i lj li. h.each k j l i lk lj ll li)
     ∙ ap (λ ws. scattered o s (scattered o s xs e k zs e.size) f l (line bd f.size f.level ws) f.size) (sym (gather_past o s xs f l f.size e k zs e.size (λ i j li lj g. h.each k j l i lk lj ll li (sym g))))
 
--- so are a line and an edge
+-- a line and the lines of an edge without a common sample are filtered in either order
 lines_past : (bd o s : ℕ) (xs : List ℤ) (e : Edge) (k : ℕ) (f : Edge) (m : ℕ) → k < 4 → m ≤ 4 → AreApart o s e f →
     with_line bd o s (with_lines bd o s xs f m) e k ≡ with_lines bd o s (with_line bd o s xs e k) f m
 unfolding with_lines
@@ -92,7 +92,7 @@ lines_past bd o s xs e k f (suc m) lk lm h =
     line_past bd o s (with_lines bd o s xs f m) e k f m lk (omega arith) h
     ∙ ap (λ zs. with_line bd o s zs f m) (lines_past bd o s xs e k f m lk (omega arith) h)
 
--- so are two edges
+-- two edges without a common sample are filtered in either order
 edge_past : (bd o s : ℕ) (xs : List ℤ) (e f : Edge) (n : ℕ) → n ≤ 4 → AreApart o s e f →
     with_lines bd o s (with_lines bd o s xs f 4) e n ≡ with_lines bd o s (with_lines bd o s xs e n) f 4
 unfolding with_lines
@@ -105,11 +105,11 @@ edge_past bd o s xs e f (suc n) l h =
 head_of : (P : Edge → Type 0) (f : Edge) (fs : List Edge) → All P (f ∷ fs) → P f
 head_of P f fs h = h 0 f (omega arith)
 
--- and of the others
+-- what holds of all edges of a list holds of all but the first
 tail_of : (P : Edge → Type 0) (f : Edge) (fs : List Edge) → All P (f ∷ fs) → All P fs
 tail_of P f fs h k d l = h (suc k) d (omega arith)
 
--- an edge goes before edges that it is apart from
+-- an edge goes before edges with which it shares no sample
 edges_past : (bd o s : ℕ) (xs : List ℤ) (e : Edge) (fs : List Edge) → All (AreApart o s e) fs → with_edge bd o s (with_edges bd o s xs fs) e ≡ with_edges bd o s (with_edge bd o s xs e) fs
 unfolding with_edges
 edges_past bd o s xs e [] h = refl
@@ -134,7 +134,7 @@ follow_row : (ℕ → ℕ → Option Edge) → ℕ → ℕ → List Edge
 follow_row hs v zero = []
 follow_row hs v (suc n) = follow_row hs v n ++ following hs n v
 
--- those of the first n rows
+-- the horizontal edges that follow in the first n rows of the walk
 follow_above : (ℕ → ℕ → Option Edge) → ℕ → ℕ → List Edge
 follow_above hs cols zero = []
 follow_above hs cols (suc n) = follow_above hs cols n ++ follow_row hs n (cols + 2)
@@ -143,7 +143,7 @@ follow_above hs cols (suc n) = follow_above hs cols n ++ follow_row hs n (cols +
 AllApart : ℕ → ℕ → List Edge → List Edge → Type 0
 AllApart o s ws hs = All (λ w. All (AreApart o s w) hs) ws
 
--- edges go before those that they are apart from
+-- edges go before edges with which they share no sample
 lists_past : (bd o s : ℕ) (xs : List ℤ) (ws hs : List Edge) → AllApart o s ws hs → with_edges bd o s (with_edges bd o s xs hs) ws ≡ with_edges bd o s (with_edges bd o s xs ws) hs
 unfolding with_edges AllApart
 lists_past bd o s xs [] hs h = refl
@@ -155,12 +155,12 @@ lists_past bd o s xs (w ∷ ws) hs h =
 record IsSorted (bd o s : ℕ) (es vs hs : List Edge) : Type 0 where
   each : (xs : List ℤ) → with_edges bd o s xs es ≡ with_edges bd o s (with_edges bd o s xs vs) hs
 
--- no edge is sorted
+-- an empty list is sorted into two empty lists
 sorted_none : (bd o s : ℕ) → IsSorted bd o s [] [] []
 unfolding with_edges
 sorted_none bd o s = record { each = λ xs. refl }
 
--- one more place of the walk
+-- one place more of a walk keeps its list sorted
 sorted_more : (bd o s : ℕ) (es vs hs ws fs : List Edge) → IsSorted bd o s es vs hs → AllApart o s ws hs → IsSorted bd o s (es ++ (ws ++ fs)) (vs ++ ws) (hs ++ fs)
 sorted_more bd o s es vs hs ws fs h a = record {
   each = λ xs.
@@ -191,7 +191,7 @@ columns_differ o s x y x' y' l l' h e = elim (cases_lt y y') [
   ]
 ]
 
--- a vertical edge at least two rows below a horizontal one
+-- a vertical edge at least two rows below a horizontal one is apart from it
 below_apart : (o s u v x y : ℕ) (e f : Edge) → StandsBefore s u v e → StandsAbove s x y f → y + 2 ≤ v → AreApart o s e f
 below_apart o s u v x y e f h k d = record {
   each = λ i j l m li lj ll lm g.
@@ -201,7 +201,7 @@ below_apart o s u v x y e f h k d = record {
       rows_differ o s (f.x + l) (f.y + m) (e.x + j) (e.y + i) (omega arith) (omega arith) (sym b ∙ sym g ∙ a);
 }
 
--- or one row below and at least three columns to the right
+-- a vertical edge one row below a horizontal one, and three columns right of it, is apart from it
 right_apart : (o s u v x y : ℕ) (e f : Edge) → StandsBefore s u v e → StandsAbove s x y f → x + 3 ≤ u → AreApart o s e f
 right_apart o s u v x y e f h k d = record {
   each = λ i j l m li lj ll lm g.
@@ -211,20 +211,20 @@ right_apart o s u v x y e f h k d = record {
       columns_differ o s (f.x + l) (f.y + m) (e.x + j) (e.y + i) (omega arith) (omega arith) (omega arith) (sym b ∙ sym g ∙ a);
 }
 
--- sorted lists, under other names
+-- lists that are equal to sorted lists are sorted
 sorted_as : (bd o s : ℕ) (es es' vs vs' hs hs' : List Edge) → es ≡ es' → vs ≡ vs' → hs ≡ hs' → IsSorted bd o s es vs hs → IsSorted bd o s es' vs' hs'
 sorted_as bd o s es es' vs vs' hs hs' e f g h = rw (← e, ← f, ← g) h
 
--- anything holds of no edge
+-- any fact holds of all of no edges
 all_none : (P : Edge → Type 0) → All P []
 all_none P k d l = absurd (omega arith)
 
--- what holds of an edge holds of the list of it
+-- what holds of an edge holds of the list of this edge
 all_one : (P : Edge → Type 0) (e : Edge) → P e → All P (e ∷ [])
 all_one P e h zero d l = h
 all_one P e h (suc k) d l = absurd (omega arith)
 
--- what holds of the edge at a place, if there is one, holds of the list of it
+-- what holds of the edge at a place, if there is one, holds of the list with it
 all_option : (P : Edge → Type 0) (o : Option Edge) → ((e : Edge) → o ≡ Some e → P e) → All P (option_to_list o)
 all_option P None h = all_none P
 all_option P (Some e) h = all_one P e (h e refl)
@@ -234,11 +234,11 @@ all_if : (P : Edge → Type 0) (b : Bool) (es : List Edge) → (b ≡ true → A
 all_if P true es h = h refl
 all_if P false es h = all_none P
 
--- two tests that both hold
+-- two tests for at most that hold together hold each
 both_true : (a b c d : ℕ) → (nat_le a b && nat_le c d) ≡ true → (a ≤ b) × (c ≤ d)
 both_true a b c d h = (grind (arith, nat_tests), grind (arith, nat_tests))
 
--- two tests for less that both hold
+-- two tests for less that hold together hold each
 both_less : (a b c d : ℕ) → (nat_lt a b && nat_lt c d) ≡ true → (a < b) × (c < d)
 both_less a b c d h = (grind (arith, nat_tests), grind (arith, nat_tests))
 
@@ -258,7 +258,7 @@ following_apart o s cols rows u v n v' hs e k h lv ln lv' later =
           | inr column ↦ right_apart o s u v (n - 2) (v' - 1) e f h stands (omega arith)
         ]
 
--- so is every horizontal edge before it in a row
+-- a vertical edge of the walk is apart from the horizontal edges before it in a row
 row_apart : (o s cols rows u v n v' : ℕ) (hs : ℕ → ℕ → Option Edge) (e : Edge) → IsHorizontalSet s cols rows hs → StandsBefore s u v e → v < rows → n ≤ cols + 2 → v' ≤ v → (v' < v) ⊎ (n ≤ u) →
     All (AreApart o s e) (follow_row hs v' n)
 unfolding follow_row
@@ -272,7 +272,7 @@ row_apart o s cols rows u v (suc n) v' hs e k h lv ln lv' (inr column) =
     (row_apart o s cols rows u v n v' hs e k h lv (omega arith) lv' (inr (omega arith)))
     (following_apart o s cols rows u v n v' hs e k h lv (omega arith) lv' (inr (omega arith)))
 
--- and every one in the rows above
+-- a vertical edge of the walk is apart from the horizontal edges in the rows above
 above_apart : (o s cols rows u v n : ℕ) (hs : ℕ → ℕ → Option Edge) (e : Edge) → IsHorizontalSet s cols rows hs → StandsBefore s u v e → v < rows → n ≤ v → All (AreApart o s e) (follow_above hs cols n)
 unfolding follow_above
 above_apart o s cols rows u v zero hs e k h lv l = all_none (AreApart o s e)
@@ -281,7 +281,7 @@ above_apart o s cols rows u v (suc n) hs e k h lv l =
     (above_apart o s cols rows u v n hs e k h lv (omega arith))
     (row_apart o s cols rows u v (cols + 2) n hs e k h lv (omega arith) (omega arith) (inl (omega arith)))
 
--- a vertical edge of the walk is apart from all horizontal ones before it
+-- a vertical edge of the walk is apart from all horizontal edges before it
 leading_apart : (o s cols rows u v : ℕ) (vs hs : ℕ → ℕ → Option Edge) → IsVerticalSet s cols rows vs → IsHorizontalSet s cols rows hs → u < cols + 2 →
     AllApart o s (leading vs cols rows u v) (follow_above hs cols v ++ follow_row hs v u)
 unfolding AllApart
@@ -319,13 +319,13 @@ unfolding lag_above lead_above follow_above
 walk_sorted bd o s cols rows zero vs hs k h = sorted_none bd o s
 walk_sorted bd o s cols rows (suc n) vs hs k h = row_sorted bd o s cols rows n (cols + 2) vs hs k h (omega arith) (walk_sorted bd o s cols rows n vs hs k h)
 
--- The walk's vertical and horizontal edges are those of the two passes, in their order.
+-- The walk has the vertical and the horizontal edges of the two passes, each in the order of its pass.
 
--- a list that a test lets in
+-- a list under a test that holds is the list
 if_true : (b : Bool) (es : List Edge) → b ≡ true → (if b then es else []) ≡ es
 if_true b es h = rw h refl
 
--- a list that a test leaves out
+-- a list under a test that fails is empty
 if_false : (b : Bool) (es : List Edge) → b ≡ false → (if b then es else []) ≡ []
 if_false b es h = rw h refl
 
@@ -338,7 +338,7 @@ lead_inside vs cols rows v (suc n) lv ln =
     ap (λ es. es ++ leading vs cols rows n v) (lead_inside vs cols rows v n lv (omega arith))
     ∙ ap (λ es. row_edges vs v n ++ es) (if_true (nat_lt n cols && nat_lt v rows) (option_to_list (vs n v)) t)
 
--- none stands in the two columns past it
+-- no vertical edge stands in the two columns past a row
 lead_past : (vs : ℕ → ℕ → Option Edge) (cols rows v : ℕ) → v < rows → lead_row vs cols rows v (suc (suc cols)) ≡ row_edges vs v cols
 unfolding lead_row
 lead_past vs cols rows v lv =
@@ -350,7 +350,7 @@ lead_past vs cols rows v lv =
     ∙ append-nil (lead_row vs cols rows v cols)
     ∙ lead_inside vs cols rows v cols lv (omega arith)
 
--- none stands in the row past it
+-- no vertical edge stands in the row past the plane
 lead_last : (vs : ℕ → ℕ → Option Edge) (cols rows n : ℕ) → lead_row vs cols rows rows n ≡ []
 unfolding lead_row
 lead_last vs cols rows zero = refl
@@ -359,11 +359,11 @@ lead_last vs cols rows (suc n) =
     ap (λ es. lead_row vs cols rows rows n ++ es) (if_false (nat_lt n cols && nat_lt rows rows) (option_to_list (vs n rows)) t)
     ∙ append-nil (lead_row vs cols rows rows n) ∙ lead_last vs cols rows n
 
--- two more, one after the other
+-- two more than n is the second number after n
 two_more : (n : ℕ) → n + 2 ≡ suc (suc n)
 two_more n = omega arith
 
--- row by row they are the pass's
+-- the walk has the vertical edges of the pass, row by row
 lead_rows : (vs : ℕ → ℕ → Option Edge) (cols rows n : ℕ) → n ≤ rows → lead_above vs cols rows n ≡ edges_above vs cols n
 unfolding lead_above edges_above
 lead_rows vs cols rows zero l = refl
@@ -372,7 +372,7 @@ lead_rows vs cols rows (suc n) l =
     ∙ ap (λ m. edges_above vs cols n ++ lead_row vs cols rows n m) (two_more cols)
     ∙ ap (λ es. edges_above vs cols n ++ es) (lead_past vs cols rows n (omega arith))
 
--- all of them are
+-- the vertical edges of the walk are the edges of the vertical pass
 lead_all : (vs : ℕ → ℕ → Option Edge) (cols rows : ℕ) → lead_above vs cols rows (suc rows) ≡ edges_above vs cols rows
 unfolding lead_above
 lead_all vs cols rows =
@@ -386,12 +386,12 @@ follow_first hs (suc n) =
     let t : (nat_le 2 n && nat_le 1 0) ≡ false = grind (arith, nat_tests) in
     ap (λ es. follow_row hs 0 n ++ es) (if_false (nat_le 2 n && nat_le 1 0) (option_to_list (hs (n - 2) (0 - 1))) t) ∙ append-nil (follow_row hs 0 n) ∙ follow_first hs n
 
--- one more column
+-- one column more adds the horizontal edge that follows there
 follow_more : (hs : ℕ → ℕ → Option Edge) (v n : ℕ) → follow_row hs v (suc n) ≡ follow_row hs v n ++ following hs n v
 unfolding follow_row
 follow_more hs v n = refl
 
--- two columns behind, a row's edges are the pass's
+-- two columns behind, the walk has the horizontal edges of a row of the pass
 follow_inside : (hs : ℕ → ℕ → Option Edge) (v n : ℕ) → follow_row hs (suc v) (suc (suc n)) ≡ row_edges hs v n
 unfolding follow_row row_edges
 follow_inside hs v zero =
@@ -410,7 +410,7 @@ follow_inside hs v (suc n) =
     ∙ ap (λ i. row_edges hs v n ++ option_to_list (hs i (suc v - 1))) x
     ∙ ap (λ i. row_edges hs v n ++ option_to_list (hs n i)) y
 
--- all horizontal edges are the pass's
+-- the horizontal edges of the walk are the edges of the horizontal pass
 follow_all : (hs : ℕ → ℕ → Option Edge) (cols n : ℕ) → follow_above hs cols (suc n) ≡ edges_above hs cols n
 unfolding follow_above edges_above
 follow_all hs cols zero = follow_first hs (cols + 2)
@@ -432,7 +432,7 @@ two_passes bd o s cols rows xs vs hs k h =
 
 -- The edges of a set stand as the walk wants them.
 
--- a size is at most 14
+-- a line has at most 14 samples
 few : (n : ℕ) → IsSize n → n ≤ 14
 few n h = elim h [ inl e ↦ omega arith | inr k ↦ elim k [ inl e ↦ omega arith | inr j ↦ elim j [ inl e ↦ omega arith | inr e ↦ omega arith ] ] ]
 
@@ -442,7 +442,7 @@ with_some vertical u v None e P at h = absurd (cc)
 with_some vertical u v (Some f) e P at h =
     let same : edge_of vertical u v f ≡ e = cc in subst P same (at f refl)
 
--- the vertical edges of a set
+-- the vertical edges of an edge set stand as the walk needs them
 set_vertical : (cols rows width height step : ℕ) (set : EdgeSet) → width ≤ step → IsEdgeSet cols rows width height set → IsVerticalSet step cols rows (edge_in set true)
 set_vertical cols rows width height step set l h = record {
   each = λ u v e lu lv is. with_some true u v (set true u v) e (StandsBefore step u v) (at u v lu lv) is;
@@ -454,7 +454,7 @@ set_vertical cols rows width height step set l h = record {
         let inside = (h.inside true u v f lu lv is).wide in
         record { vertical = refl; x = omega arith; y = refl; size = few f.size (h.size true u v f lu lv is); inside = omega arith }
 
--- its horizontal edges
+-- the horizontal edges of an edge set stand as the walk needs them
 set_horizontal : (cols rows width height step : ℕ) (set : EdgeSet) → width ≤ step → IsEdgeSet cols rows width height set → IsHorizontalSet step cols rows (edge_in set false)
 set_horizontal cols rows width height step set l h = record {
   each = λ u v e lu lv is. with_some false u v (set false u v) e (StandsAbove step u v) (at u v lu lv) is;
@@ -466,7 +466,7 @@ set_horizontal cols rows width height step set l h = record {
         let inside = (h.inside false u v f lu lv is).wide in
         record { vertical = refl; x = refl; y = omega arith; size = few f.size (h.size false u v f lu lv is); inside = omega arith }
 
--- the law, for every edge set
+-- one walk over an edge set gives the two whole passes
 pub lag_is_two_passes : LagIsTwoPasses
 lag_is_two_passes r cols rows width height set l h =
     two_passes r.depth r.origin r.step cols rows r.numbers (edge_in set true) (edge_in set false)

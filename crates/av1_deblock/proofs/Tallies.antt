@@ -10,15 +10,15 @@ use Rattle.std.proofs.Math.IntN.{+ℤ_assoc, +ℤ_comm, +ℤ_idl, +ℤ_idr}
 use Rattle.av1_deblock.specs.Line.{sample, sum_below}
 use Rattle.av1_deblock.specs.Errors.{by_level, raised, running, IsBoundedBy, HasAdded}
 
--- v from t on
+-- the number v from level t on, and 0 below
 abbrev pub from_on : ℤ → ℕ → ℕ → ℤ
 from_on v t l = if nat_le t l then v else pos 0
 
--- the entry that was raised
+-- the raised entry is the old one and v
 raised_at : (es : List ℤ) (t i : ℕ) (v : ℤ) → t < length es → i ≡ t → get_or (raised es t v) i (pos 0) ≡ get_or es t (pos 0) +ℤ v
 raised_at es t i v l e = get_or-set_at es t i (get_or es t (pos 0) +ℤ v) (pos 0) e l
 
--- any other entry
+-- an entry other than the raised one stays
 raised_off : (es : List ℤ) (t i : ℕ) (v : ℤ) → i ≢ t → get_or (raised es t v) i (pos 0) ≡ get_or es i (pos 0)
 raised_off es t i v d = get_or-set_other es t i (get_or es t (pos 0) +ℤ v) (pos 0) (λ f. d (omega arith))
 
@@ -26,11 +26,11 @@ raised_off es t i v d = get_or-set_other es t i (get_or es t (pos 0) +ℤ v) (po
 swap_last : (a b c : ℤ) → (a +ℤ b) +ℤ c ≡ (a +ℤ c) +ℤ b
 swap_last a b c = +ℤ_assoc a b c ∙ ap (λ z. a +ℤ z) (+ℤ_comm b c) ∙ sym (+ℤ_assoc a c b)
 
--- a number moves out of a sum
+-- a number that is added to a term is added to the sum
 pushed : (s g v : ℤ) → (s +ℤ pos 0) +ℤ (g +ℤ v) ≡ (s +ℤ g) +ℤ v
 pushed s g v = ap (λ z. z +ℤ (g +ℤ v)) (+ℤ_idr s) ∙ sym (+ℤ_assoc s g v)
 
--- a sum of entries, one of them raised
+-- a sum of entries with one raised is the sum, raised by as much where the entry is in it
 sum_raised : (n t : ℕ) (es : List ℤ) (v : ℤ) → t < length es → sum_below n (sample (raised es t v)) ≡ sum_below n (sample es) +ℤ (if nat_lt t n then v else pos 0)
 unfolding sum_below
 sum_raised zero t es v l =
@@ -49,27 +49,27 @@ sum_raised (suc n) t es v l =
           rw (before, still, raised_off es t n v d) (swap_last (sum_below n (sample es)) (if nat_lt t n then v else pos 0) (get_or es n (pos 0)))
     ]
 
--- a place before the next is at most this one
+-- a number below the next of l is at most l
 before_more : (t l : ℕ) → nat_lt t (suc l) ≡ nat_le t l
 before_more t l = grind (arith, nat_tests)
 
--- a running sum, one entry raised
+-- a running sum with one entry raised is raised from this entry's level on
 running_raised : (t l : ℕ) (es : List ℤ) (v : ℤ) → t < length es → running (raised es t v) l ≡ running es l +ℤ from_on v t l
 running_raised t l es v h = sum_raised (suc l) t es v h ∙ ap (λ b. running es l +ℤ (if b then v else pos 0)) (before_more t l)
 
--- the lower bound of a raised entry
+-- the sum of two numbers above bounds is above the sum of the bounds
 lower : (n m : ℕ) (g v : ℤ) → (pos 0 -ℤ pos m) ≤ℤ v → (pos 0 -ℤ pos n) ≤ℤ g → (pos 0 -ℤ pos (n + m)) ≤ℤ (g +ℤ v)
 lower n m g v h k = omega (arith, ints)
 
--- its upper bound
+-- the sum of two numbers within bounds is within the sum of the bounds
 upper : (n m : ℕ) (g v : ℤ) → v ≤ℤ pos m → g ≤ℤ pos n → (g +ℤ v) ≤ℤ pos (n + m)
 upper n m g v h k = omega (arith, ints)
 
--- a lower bound that moves down
+-- a number above a lower bound is above every lower one
 lower_same : (n m : ℕ) (g : ℤ) → (pos 0 -ℤ pos n) ≤ℤ g → (pos 0 -ℤ pos (n + m)) ≤ℤ g
 lower_same n m g k = omega (arith, ints)
 
--- an upper bound that moves up
+-- a number below an upper bound is below every greater one
 upper_same : (n m : ℕ) (g : ℤ) → g ≤ℤ pos n → g ≤ℤ pos (n + m)
 upper_same n m g k = omega (arith, ints)
 
@@ -93,7 +93,7 @@ near_wider n m es l h = record {
   high = λ i. grind (arith, h.high i);
 }
 
--- three jumps sum to the value
+-- the jumps at three levels sum to the value at a level
 jumps : (a b c : ℕ) (from last l : ℕ) → from ≤ last → ((pos 0 +ℤ from_on (pos a -ℤ pos 0) 0 l) +ℤ from_on (pos b -ℤ pos a) from l) +ℤ from_on (pos c -ℤ pos b) last l ≡ pos (if nat_le from l then (if nat_le last l then c else b) else a)
 jumps a b c from last l h = grind (arith, nat_tests)
 
@@ -101,13 +101,13 @@ jumps a b c from last l h = grind (arith, nat_tests)
 later : (from lost l : ℕ) (a b c : ℕ) → (if nat_le from l then (if nat_le (max from lost) l then c else b) else a) ≡ by_level from lost a b c l
 later from lost l a b c = grind (arith, nat_tests)
 
--- four numbers, put together otherwise
+-- four numbers have one sum in any grouping
 regrouped : (r p q s : ℤ) → ((r +ℤ p) +ℤ q) +ℤ s ≡ r +ℤ (((pos 0 +ℤ p) +ℤ q) +ℤ s)
 regrouped r p q s =
     ap (λ z. z +ℤ s) (+ℤ_assoc r p q) ∙ +ℤ_assoc r (p +ℤ q) s
     ∙ ap (λ z. r +ℤ ((z +ℤ q) +ℤ s)) (sym (+ℤ_idl p))
 
--- the error of a line, added to a tally
+-- adding the error of a line to a tally adds it at each level
 pub line_added : (es : List ℤ) (a b c from lost m : ℕ) → length es ≡ 65 → from ≤ 64 → lost ≤ 64 → a ≤ m → b ≤ m → c ≤ m →
     HasAdded (3 * m) (by_level from lost a b c) es (raised (raised (raised es 0 (pos a -ℤ pos 0)) from (pos b -ℤ pos a)) (max from lost) (pos c -ℤ pos b))
 line_added es a b c from lost m long lf ll la lb lc = record {
@@ -137,11 +137,11 @@ line_added es a b c from lost m long lf ll la lb lc = record {
     long2 : length (raised (raised es 0 (pos a -ℤ pos 0)) from (pos b -ℤ pos a)) ≡ 65
     long2 = length-set _ from _ ∙ long1
 
--- nothing was added
+-- adding nothing leaves the entries as they are
 pub added_none : (es : List ℤ) → HasAdded 0 (λ l. 0) es es
 added_none es = record { long = refl; sums = λ l h. grind arith; small = λ l h. omega arith; near = λ m h. near_wider m (m + 0) es (omega arith) h }
 
--- one after the other
+-- adding one function and then another adds their sum
 pub added_more : (m n : ℕ) (f g : ℕ → ℕ) (a b c : List ℤ) → HasAdded m f a b → HasAdded n g b c → HasAdded (m + n) (λ l. f l + g l) a c
 added_more m n f g a b c h k = record {
   long = k.long ∙ h.long;
@@ -150,7 +150,7 @@ added_more m n f g a b c h k = record {
   near = λ p i. near_wider (p + m + n) (p + (m + n)) c (omega arith) (k.near (p + m) (h.near p i));
 }
 
--- the same function by another name, under a greater bound
+-- adding a function is adding an equal one, under any greater bound
 pub added_as : (m n : ℕ) (f g : ℕ → ℕ) (a b : List ℤ) → m ≤ n → ((l : ℕ) → l < 64 → f l ≡ g l) → HasAdded m f a b → HasAdded n g a b
 added_as m n f g a b l e h = record {
   long = h.long;

@@ -9,11 +9,11 @@ use Rattle.av1_deblock.specs.Errors.{line_distance, by_level}
 step_one : (d l : ℕ) → nat_le d (l * 1) ≡ nat_le (over d 1) l
 step_one d l = grind (arith, nat_tests)
 
--- at 10 bits
+-- a step within a limit at 10 bits
 step_four : (d l : ℕ) → nat_le d (l * 4) ≡ nat_le (over d 4) l
 step_four d l = grind (arith, nat_tests)
 
--- at 12 bits
+-- a step within a limit at 12 bits
 step_sixteen : (d l : ℕ) → nat_le d (l * 16) ≡ nat_le (over d 16) l
 step_sixteen d l = grind (arith, nat_tests)
 
@@ -32,7 +32,7 @@ third c l = grind (arith, nat_tests)
 pub edge_from : (d l s : ℕ) → IsScale s → nat_le d ((3 * l + 4) * s) ≡ nat_le ((over d s - 4 + 2) / 3) l
 edge_from d l s h = step_from d (3 * l + 4) s h ∙ third (over d s) l
 
--- less is not at least
+-- a test for less is the negation of a test for at most the other way round
 turned : (v a : ℕ) → nat_lt a v ≡ not (nat_le v a)
 turned v a = grind (arith, nat_tests)
 
@@ -44,15 +44,15 @@ sixteenth c l = grind (arith, nat_tests)
 pub sharp_below : (v l s : ℕ) → IsScale s → nat_lt (l / 16 * s) v ≡ nat_lt l (16 * over v s)
 sharp_below v l s h = turned v (l / 16 * s) ∙ ap not (step_from v (l / 16) s h) ∙ sixteenth (over v s) l
 
--- two tests turn where the later one does
+-- two tests that begin to hold at two levels hold together from the greater one on
 both_from : (a b l : ℕ) → (nat_le a l && nat_le b l) ≡ nat_le (max a b) l
 both_from a b l = grind (arith, nat_tests)
 
--- a test that always holds
+-- a test for at least 0 always holds
 none_from : (l : ℕ) → true ≡ nat_le 0 l
 none_from l = grind (arith, nat_tests)
 
--- all steps are small where the greatest is
+-- all steps are within a limit where the greatest step is
 steps_at : (xs : List ℤ) (half n m : ℕ) → steps_within xs half n m ≡ nat_le (greatest_step xs half n) m
 unfolding all_below greatest_step
 steps_at xs half zero m = none_from m
@@ -61,7 +61,7 @@ steps_at xs half (suc n) m =
     ∙ ap (λ b. nat_le (greatest_step xs half n) m && b) (both_from (distance (before xs half (n + 1)) (before xs half n)) (distance (after xs half (n + 1)) (after xs half n)) m)
     ∙ both_from (greatest_step xs half n) (max (distance (before xs half (n + 1)) (before xs half n)) (distance (after xs half (n + 1)) (after xs half n))) m
 
--- above 0 is at least 1
+-- a number above 0 is at least 1
 above_none : (l : ℕ) → nat_lt 0 l ≡ nat_le 1 l
 above_none l = grind (arith, nat_tests)
 
@@ -74,11 +74,11 @@ filtered_from s size l xs h =
     let c = steps_at xs half (tested size) (l * s) ∙ step_from (greatest_step xs half (tested size)) l s h in
     rw (a, b, c) (rw (both_from 1 ((over (edge_distance xs half) s - 4 + 2) / 3) l) (both_from (max 1 ((over (edge_distance xs half) s - 4 + 2) / 3)) (over (greatest_step xs half (tested size)) s) l))
 
--- it has high variance below another
+-- a line has high variance below a level
 pub variance_below : (s size l : ℕ) (xs : List ℤ) → IsScale s → high_variance s size l xs ≡ nat_lt l (16 * over (variance xs (size / 2)) s)
 variance_below s size l xs h = sharp_below (variance xs (size / 2)) l s h
 
--- its error by its level
+-- the error of a line by its level
 pub distance_by_level : (s size l : ℕ) (xs ys : List ℤ) → IsScale s →
     line_distance size (line_at s size l xs) ys
     ≡ by_level (first_level s size xs) (16 * over (variance xs (size / 2)) s) (line_distance size xs ys) (line_distance size (moved_line s size true xs) ys) (line_distance size (moved_line s size false xs) ys) l
@@ -105,6 +105,6 @@ distance_by_level s size l xs ys h =
     at true false lost w n = with_test lost n (nat_le lost l) refl
     at false b lost w n = refl
 
--- levels past 63 are as good as 64
+-- levels past 63 count as 64
 pub capped : (from lost a b c l : ℕ) → l < 64 → by_level (min from 64) (min lost 64) a b c l ≡ by_level from lost a b c l
 capped from lost a b c l h = grind (arith, nat_tests)

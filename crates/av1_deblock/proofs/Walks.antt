@@ -31,7 +31,7 @@ place_same o s e level k j = refl
 line_same : (s : ℕ) (xs cells : List ℤ) (e : Edge) (level k : ℕ) → k < 4 → HoldsLines 0 s xs e e.size 4 cells → column cells k e.size ≡ gathered 0 s xs (at_level e level) k e.size
 line_same s xs cells e level k lk h = column_gathered 0 s xs cells (at_level e level) k e.size lk (λ j lj. h.each j k lj lk ∙ ap (λ i. get_or xs i (pos 0)) (place_same 0 s e level k j))
 
--- the error of an edge by its cells
+-- the error of an edge's cells is the error of the edge
 pub cells_are_edge : (c : Compared) (e : Edge) (cells source : List ℤ) (level : ℕ) → HoldsLines 0 c.coded_step c.coded e e.size 4 cells → HoldsLines 0 c.source_step c.source e e.size 4 source →
     cells_error c.depth e.size cells source level ≡ edge_error c (at_level e level)
 unfolding cells_error edge_error line_error
@@ -47,38 +47,38 @@ cells_are_edge c e cells source level h k =
       line_same c.source_step c.source source e level 3 (lit< tt) k,
     ) refl
 
--- no edge has no error
+-- no edges have the error 0
 edges_error_none : (c : Compared) → edges_error c [] ≡ 0
 unfolding edges_error
 edges_error_none c = refl
 
--- the error of one edge
+-- the error of a list of one edge is the error of the edge
 edges_error_one : (c : Compared) (e : Edge) → edges_error c (e ∷ []) ≡ edge_error c e
 unfolding edges_error
 edges_error_one c e = omega arith
 
--- the error of two lists is the sum
+-- the error of two lists of edges is the sum of both errors
 edges_error-append : (c : Compared) (es fs : List Edge) → edges_error c (es ++ fs) ≡ edges_error c es + edges_error c fs
 unfolding edges_error
 edges_error-append c es fs = sum_by-append (edge_error c) es fs
 
--- the error of a place with an edge
+-- the error of a place with an edge is the error of the edge
 pub some_error : (c : Compared) (g : Grid) (r : BlockRows) (u v size level : ℕ) → stands_in g r u v ≡ true → size ≡ edge_size g (current_in g r u) (previous_in g r u) →
     edge_error c (edge_of g.vertical u v (record { size = size; level = level })) ≡ edges_error c (option_to_list (edge_in_rows g (fixed level) r u v))
 some_error c g r u v size level h e = rw (e, edge_stands g (fixed level) r u v h) (sym (edges_error_one c _))
 
--- the error of a place without
+-- the error of a place without an edge is 0
 pub none_error : (c : Compared) (g : Grid) (r : BlockRows) (u v level : ℕ) → stands_in g r u v ≡ false →
     0 ≡ edges_error c (option_to_list (edge_in_rows g (fixed level) r u v))
 none_error c g r u v level h = rw (edge_missing g (fixed level) r u v h) (sym (edges_error_none c))
 
 -- rows, from the left and from the top, of the edges that stand at each level
 
--- nothing is added yet in a row
+-- no edge of a row is added yet
 pub row_none : (c : Compared) (fs : ℕ → ℕ → ℕ → Option Edge) (v : ℕ) (es : List ℤ) → HasAdded (4294967296 * 0) (λ level. edges_error c (row_edges (fs level) v 0)) es es
 row_none c fs v es = added_as 0 (4294967296 * 0) _ _ es es (omega arith) (λ l h. rw (row_edges_none (fs l) v) (sym (edges_error_none c))) (added_none es)
 
--- one more place
+-- one place more of a row is added
 pub row_more : (c : Compared) (fs : ℕ → ℕ → ℕ → Option Edge) (v u : ℕ) (a b d : List ℤ) →
     HasAdded (4294967296 * u) (λ level. edges_error c (row_edges (fs level) v u)) a b →
     HasAdded 4294967296 (λ level. edges_error c (option_to_list (fs level u v))) b d →
@@ -88,11 +88,11 @@ row_more c fs v u a b d h k =
     (λ l i. rw (row_edges_more (fs l) v u) (sym (edges_error-append c (row_edges (fs l) v u) (option_to_list (fs l u v)))))
     (added_more (4294967296 * u) 4294967296 _ _ a b d h k)
 
--- nothing is added yet
+-- no row of edges is added yet
 pub rows_none : (c : Compared) (fs : ℕ → ℕ → ℕ → Option Edge) (cols : ℕ) (es : List ℤ) → HasAdded (70368744177664 * 0) (λ level. edges_error c (edges_above (fs level) cols 0)) es es
 rows_none c fs cols es = added_as 0 (70368744177664 * 0) _ _ es es (omega arith) (λ l h. rw (edges_none (fs l) cols) (sym (edges_error_none c))) (added_none es)
 
--- one more row
+-- one row more of edges is added
 pub rows_more : (c : Compared) (fs : ℕ → ℕ → ℕ → Option Edge) (cols v : ℕ) (a b d : List ℤ) →
     HasAdded (70368744177664 * v) (λ level. edges_error c (edges_above (fs level) cols v)) a b →
     HasAdded 70368744177664 (λ level. edges_error c (row_edges (fs level) v cols)) b d →

@@ -27,11 +27,11 @@ measured bd number p rec_region src_region = record { plane = p; pictures = comp
 abbrev pub error_at : BlockTable → Measured → Bool → ℕ → ℕ
 error_at t m vertical level = plane_error m.plane t m.pictures vertical level
 
--- of both directions
+-- the error of the edges of both directions at a level
 abbrev pub error_of_both : BlockTable → Measured → ℕ → ℕ
 error_of_both t m level = error_at t m true level + error_at t m false level
 
--- sums from 0 to 2^60
+-- entries whose sums up to each level are from 0 to 2^60
 pub record HasSums (entries : List ℤ) : Type 0 where
   pub long : length entries ≡ 65
   pub low : (level : ℕ) → level < 64 → pos 0 ≤ℤ running entries level
@@ -47,7 +47,7 @@ pub record IsLowestSum (first second : List ℤ) (n best : ℕ) : Type 0 where
   pub least : (m : ℕ) → m < n → total first second best ≤ℤ total first second m
   pub lowest : (m : ℕ) → m < best → total first second best <ℤ total first second m
 
--- level i of four
+-- level i of a list of levels
 abbrev pub level_of : List ℕ → ℕ → ℕ
 level_of levels i = slice_index_or levels i 0
 
@@ -69,7 +69,7 @@ is_key SWITCH = false
 abbrev pub guessed_level : Parameters → ℕ
 guessed_level p = fast_level_of p.ac_quantizer p.sequence.bit_depth (is_key p.frame_type)
 
--- the levels of a frame: the guessed one four times where that is asked for, else those of least error
+-- the levels of a frame: four times the guessed one where the frame asks for it, else the best ones
 pub record AreLevels (p : Parameters) (t : BlockTable) (m : Three Measured) (levels : List ℕ) : Type 0 where
   pub fast : p.fast_deblock ≡ true → (let level = guessed_level p in levels ≡ level ∷ level ∷ level ∷ level ∷ [])
   pub best : p.fast_deblock ≡ false → AreBest t m levels

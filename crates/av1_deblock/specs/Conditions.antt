@@ -17,16 +17,16 @@ pub record IsDecimated (pli : ℕ) (cfg : PlaneConfig) : Type 0 where
   pub luma_x : pli ≡ 0 → cfg.xdec ≡ 0
   pub luma_y : pli ≡ 0 → cfg.ydec ≡ 0
 
--- the sides of a frame
+-- the sides of a frame are at most 65536
 pub record AreCropSides (crop_w crop_h : ℕ) : Type 0 where
   pub wide : crop_w ≤ 65536
   pub high : crop_h ≤ 65536
 
--- the sides of the rounded part of a plane of a frame
+-- how many columns the rounded part of a plane of a frame has
 abbrev pub rounded_width : PlaneConfig → ℕ → ℕ
 rounded_width cfg crop_w = if is_empty cfg then 0 else rounded crop_w / 2 ^ cfg.xdec
 
--- and its height
+-- how many rows the rounded part of a plane of a frame has
 abbrev pub rounded_height : PlaneConfig → ℕ → ℕ
 rounded_height cfg crop_h = if is_empty cfg then 0 else rounded crop_h / 2 ^ cfg.ydec
 
@@ -36,7 +36,7 @@ pub record CoversPlane {X : Type 0} (crop_w crop_h : ℕ) (r : PlaneRegionMut X)
   pub wide : rounded_width r.plane_cfg crop_w ≤ (area r).width
   pub high : rounded_height r.plane_cfg crop_h ≤ (area r).height
 
--- the numbers in the rounded part of its plane are in depth
+-- the numbers in the rounded part of a region's plane are below 2 ^ bit depth
 abbrev pub HasDepth : {X : Type 0} → ℕ → ℕ → ℕ → (X → ℤ) → PlaneRegionMut X → Type 0
 HasDepth bd crop_w crop_h number r =
     PartBelow (2 ^ bd) (first_place r) (row_step r) (rounded_width r.plane_cfg crop_w) (rounded_height r.plane_cfg crop_h) (numbers_under number r)
@@ -47,12 +47,12 @@ pub record CoversBlocks (crop_w crop_h : ℕ) (b : TileBlocks) : Type 0 where
   pub high : rounded crop_h / 4 ≤ view_rows b
   pub refs : (x y : ℕ) → x < view_cols b → y < view_rows b → HasReference (entry_at (view_entries b) (view_step b) x y)
 
--- a region for reading has the rounded part of a plane of that layout
+-- a region for reading has the rounded part of a plane of this layout
 pub record ShowsRounded {X : Type 0} (cfg : PlaneConfig) (crop_w crop_h : ℕ) (r : PlaneRegion X) : Type 0 where
   pub wide : rounded_width cfg crop_w ≤ (area_seen r).width
   pub high : rounded_height cfg crop_h ≤ (area_seen r).height
 
--- the numbers there are in depth
+-- the numbers that a region for reading has of a plane's rounded part are below 2 ^ bit depth
 abbrev pub ShowsDepth : {X : Type 0} → ℕ → PlaneConfig → ℕ → ℕ → (X → ℤ) → PlaneRegion X → Type 0
 ShowsDepth bd cfg crop_w crop_h number r =
     PartBelow (2 ^ bd) 0 (step_seen r) (rounded_width cfg crop_w) (rounded_height cfg crop_h) (numbers_seen number r)

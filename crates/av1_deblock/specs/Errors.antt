@@ -11,20 +11,20 @@ use Rattle.av1_deblock.specs.Levels.{exactly}
 use Rattle.av1_deblock.specs.Edges.{BlockTable}
 use Rattle.av1_deblock.specs.Passes.{FramePlane, plane_edges, gathered, is_empty}
 
--- how many samples on each side of an edge a line of that size may change
+-- how many samples on each side of an edge the filter of a line of this size may change
 abbrev pub reach : ℕ → ℕ
 reach size = if nat_le size 6 then 2 else if size == 8 then 3 else 6
 
--- the squared distance at place i
+-- the squared distance of two lists at place i
 abbrev pub square_at : List ℤ → List ℤ → ℕ → ℕ
 square_at xs ys i = distance (sample xs i) (sample ys i) * distance (sample xs i) (sample ys i)
 
--- the squared distances at the n places from `from` on
+-- the sum of the squared distances of two lists at the n places from `from` on
 unfoldable pub squares : List ℤ → List ℤ → ℕ → ℕ → ℕ
 squares xs ys from zero = 0
 squares xs ys from (suc n) = squares xs ys from n + square_at xs ys (from + n)
 
--- at the places of a line that may change
+-- the sum of the squared distances of two lines at the places that a filter may change
 abbrev pub line_distance : ℕ → List ℤ → List ℤ → ℕ
 line_distance size xs ys = squares xs ys (size / 2 - reach size) (2 * reach size)
 
@@ -37,7 +37,7 @@ pub record Compared : Type 0 where
   pub source : List ℤ
   pub source_step : ℕ
 
--- those that two regions show
+-- the numbers that a coded region and its source show, to be compared
 abbrev pub compared : {X : Type 0} → ℕ → (X → ℤ) → PlaneRegion X → PlaneRegion X → Compared
 compared bd number rec_region src_region = record {
   depth = bd;
@@ -54,15 +54,15 @@ line_error c e k =
     (line c.depth e.size e.level (gathered 0 c.coded_step c.coded e k e.size))
     (gathered 0 c.source_step c.source e k e.size)
 
--- an edge's four lines
+-- the errors of an edge's four lines, added
 unfoldable pub edge_error : Compared → Edge → ℕ
 edge_error c e = line_error c e 0 + line_error c e 1 + line_error c e 2 + line_error c e 3
 
--- edges, each filtered alone
+-- the errors of edges, each filtered alone, added
 unfoldable pub edges_error : Compared → List Edge → ℕ
 edges_error c es = sum_by (edge_error c) es
 
--- the same edge at another level
+-- an edge with another level
 abbrev pub at_level : Edge → ℕ → Edge
 at_level e level = record e { level = level }
 
@@ -81,7 +81,7 @@ pub record IsLowestLeast (f : ℕ → ℕ) (n best : ℕ) : Type 0 where
 
 -- The error of a line by its level.
 
--- `unfiltered` below `from`, then `high`, from `lost` on `low`
+-- `unfiltered` below level `from`, then `high`, and from level `lost` on `low`
 abbrev pub by_level : ℕ → ℕ → ℕ → ℕ → ℕ → ℕ → ℕ
 by_level from lost unfiltered high low level =
     if nat_le from level then (if nat_le lost level then low else high) else unfiltered
@@ -109,7 +109,7 @@ pub record IsProfile (s size : ℕ) (xs ys : List ℤ) (p : Profile) : Type 0 wh
 abbrev pub mark : List ℕ → ℕ → ℕ
 mark marks i = slice_index_or marks i 0
 
--- the profile of line k
+-- the profile of line k, out of the marks of four lines
 abbrev pub profile_of : List ℕ → ℕ → Profile
 profile_of marks k = record {
   unfiltered = mark marks k;
@@ -119,12 +119,12 @@ profile_of marks k = record {
   low = mark marks (16 + k);
 }
 
--- of the first n lines
+-- the marks are the profiles of the first n lines of the cells
 pub record HasProfiles (s size n : ℕ) (cells source : List ℤ) (marks : List ℕ) : Type 0 where
   pub long : length marks ≡ 20
   pub each : (k : ℕ) → k < n → IsProfile s size (column cells k size) (column source k size) (profile_of marks k)
 
--- the error of four lines
+-- the errors at a level that the profiles of four lines say, added
 abbrev pub marks_error : List ℕ → ℕ → ℕ
 marks_error marks level =
     profile_error (profile_of marks 0) level + profile_error (profile_of marks 1) level
@@ -135,7 +135,7 @@ abbrev pub column_error : ℕ → ℕ → List ℤ → List ℤ → ℕ → ℕ 
 column_error bd size cells source level k =
     line_distance size (line bd size level (column cells k size)) (column source k size)
 
--- of all four
+-- the errors of all four lines of the cells at a level, added
 unfoldable pub cells_error : ℕ → ℕ → List ℤ → List ℤ → ℕ → ℕ
 cells_error bd size cells source level =
     column_error bd size cells source level 0 + column_error bd size cells source level 1
@@ -147,13 +147,13 @@ cells_error bd size cells source level =
 abbrev pub running : List ℤ → ℕ → ℤ
 running entries level = sum_below (suc level) (sample entries)
 
--- 65 entries of which those up to each level sum to f there
+-- 65 entries whose sums up to each level are f of the level
 pub record IsTally (f : ℕ → ℕ) (entries : List ℤ) : Type 0 where
   pub long : length entries ≡ 65
   pub sums : (level : ℕ) → level < 64 → running entries level ≡ pos (f level)
   pub small : (level : ℕ) → level < 64 → f level ≤ 1152921504606846976
 
--- an entry with v added
+-- the entries with v added to one of them
 abbrev pub raised : List ℤ → ℕ → ℤ → List ℤ
 raised entries at v = slice_set entries at (sample entries at +ℤ v)
 

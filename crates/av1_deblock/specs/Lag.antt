@@ -11,7 +11,7 @@ use Rattle.av1_deblock.specs.Passes.{Raster, filtered, passed}
 abbrev pub leading : (ℕ → ℕ → Option Edge) → ℕ → ℕ → ℕ → ℕ → List Edge
 leading vertical cols rows u v = if nat_lt u cols && nat_lt v rows then option_to_list (vertical u v) else []
 
--- the horizontal edge that follows there
+-- the horizontal edge two columns before in the row above, if there is one
 abbrev pub following : (ℕ → ℕ → Option Edge) → ℕ → ℕ → List Edge
 following horizontal u v = if nat_le 2 u && nat_le 1 v then option_to_list (horizontal (u - 2) (v - 1)) else []
 
@@ -35,9 +35,8 @@ lag vertical horizontal cols rows = lag_above vertical horizontal cols rows (row
 abbrev pub lagged : Raster → ℕ → ℕ → EdgeSet → List ℤ
 lagged r cols rows set = filtered r (lag (edge_in set true) (edge_in set false) cols rows)
 
--- it gives the two whole passes, for every plane and every edge set whose lines stay in the plane's columns
+-- one walk gives the two whole passes, for each plane and edge set with lines inside the plane's columns
 abbrev pub LagIsTwoPasses : Type 0
--- it gives the two whole passes, for every plane and every edge set whose lines stay in the plane's columns
 LagIsTwoPasses = (r : Raster) (cols rows width height : ℕ) (set : EdgeSet) →
     width ≤ r.step → IsEdgeSet cols rows width height set →
     lagged r cols rows set ≡ passed r cols rows set

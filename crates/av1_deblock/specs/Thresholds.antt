@@ -1,9 +1,9 @@
--- The levels at which what is done to a line changes. A line is filtered from one level on, and loses
+-- The levels at which the filter of a line changes. A line is filtered from one level on, and loses
 -- its high variance at another.
 use Rattle.std.specs.Prelude.{ℕ, zero, suc, ℤ, ◌≡◌, ◌⊎◌, ◌+◌, ◌-◌, ◌*◌, ◌/◌, Bool, ◌==◌, if◌then◌else◌, List, max}
 use Rattle.av1_deblock.specs.Line.{before, after, distance, p0, p1, q0, q1, flat, flat_outside, tested, narrow, wide}
 
--- the thresholds as numbers, at each depth
+-- the scale of a bit depth: 2 to the number of its bits above 8
 abbrev pub IsScale : ℕ → Type 0
 IsScale s = (s ≡ 1) ⊎ (s ≡ 4) ⊎ (s ≡ 16)
 
@@ -16,7 +16,7 @@ unfoldable pub greatest_step : List ℤ → ℕ → ℕ → ℕ
 greatest_step xs half zero = 0
 greatest_step xs half (suc n) = max (greatest_step xs half n) (max (distance (before xs half (n + 1)) (before xs half n)) (distance (after xs half (n + 1)) (after xs half n)))
 
--- the step over the edge
+-- the size of the step over the edge
 abbrev pub edge_distance : List ℤ → ℕ → ℕ
 edge_distance xs half = 2 * distance (p0 xs half) (q0 xs half) + distance (p1 xs half) (q1 xs half) / 2
 

@@ -13,11 +13,11 @@ pub struct Profile {
     pub unfiltered: u32,
     /// The level from which on it is filtered, at most 64.
     pub from: u32,
-    /// Its error filtered with high variance.
+    /// The error of the line filtered with high variance.
     pub high: u32,
     /// The level from which on it has no high variance, at most 64.
     pub lost: u32,
-    /// Its error filtered without.
+    /// The error of the line filtered without high variance.
     pub low: u32,
 }
 
@@ -230,7 +230,7 @@ fn choose(first: bool, a: u32, b: u32) -> u32
     if first { a } else { b }
 }
 
-// The error of a flat line, by way of `moved`; of four samples none is.
+// The error of a flat line, written to `moved`; a line of four samples is never flat.
 #[inline(always)]
 fn wide_error(line: &[i32], source: &[i32], moved: &mut [i32], scale: u32) -> u32
     requires size { IsSize (length line.now) }

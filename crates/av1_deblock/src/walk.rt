@@ -122,7 +122,7 @@ fn add_edge<T: Pixel>(
     }
 }
 
-// That of the edge at one place, where there is one.
+// Adds the error of the edge at one place, if there is one.
 #[inline(always)]
 #[tactic(auto, using(crate::proofs::Walks::places))]
 fn add_place<T: Pixel>(
@@ -156,7 +156,7 @@ fn add_place<T: Pixel>(
     }
 }
 
-// Those between two rows of blocks, from the left.
+// Adds the errors of the edges between two rows of blocks, from the left.
 #[inline(always)]
 fn add_between<T: Pixel>(
     entries: &mut [i64],
@@ -187,7 +187,7 @@ fn add_between<T: Pixel>(
     }
 }
 
-// Those of one row, from the left.
+// Adds the errors of one row's edges, from the left.
 #[inline(always)]
 fn add_row<T: Pixel>(
     entries: &mut [i64],
@@ -218,7 +218,7 @@ fn add_row<T: Pixel>(
     add_between(entries, rec, src, g, &rows, bd, v);
 }
 
-// Those of all edges of one direction.
+// Adds the errors of all edges of one direction.
 fn add_edges<T: Pixel>(
     entries: &mut [i64],
     rec: &PlaneRegion<'_, T>,

@@ -5,6 +5,7 @@ use Rattle.av1_deblock.specs.Edges.{edge_in_rows, row_edges}
 use Rattle.av1_deblock.specs.Passes.{raster_under, filtered, GridBelow}
 use Rattle.av1_deblock.proofs.pass.filter_between.Given as goal
 
+-- The edges in the first u columns of the row are filtered, and the region stays in depth.
 abbrev pub invariant-loop-u : goal.invariant-loop-u
 invariant-loop-u g l = record {
   part : IsSamePart l.initial.p l.p;
