@@ -15,7 +15,7 @@ use Rattle.std.proofs.lemmas.List.{get_or_append_left}
 use Rattle.std.proofs.lemmas.Bool.{cases_lt, ne_eqb}
 use Rattle.std.proofs.lemmas.Bool.Decides.{nat_tests}
 
--- the samples of a plane lie in its list
+-- a plane's samples lie in its list
 pub plane_room : (size yo xo stride alloc w h : ℕ) → size ≡ stride * alloc → yo + h ≤ alloc → xo + w ≤ stride → (yo * stride + xo) + h * stride + w ≤ size + stride
 plane_room size yo xo stride alloc w h e a b =
     let rows : (yo + h) * stride ≤ alloc * stride = mul-le-mul_right stride a in
@@ -46,7 +46,7 @@ block_deep bound n p bx by h a b = record {
       subst (λ k. InDepth bound (get_or p.samples k (pos 0))) split (h.depth (8 * bx + j) (8 * by + i) (omega arith) (omega arith));
 }
 
--- a list of samples that holds a picture
+-- the list of a source holds its picture
 pub source_held : (bound n : ℕ) (p : CdefPicture) → p.step < 2 ^ 32 → p.width ≤ p.step → p.origin + p.height * p.step + p.width ≤ n + p.step → IsDeep bound p → IsHeld bound n p
 source_held bound n p a b c d = record { narrow = a; wide = b; inside = c; depth = d.each }
 
@@ -60,22 +60,22 @@ filtered_inside blocks step cols rows u v e = at (all_skipped blocks step u v) e
     at : (b : Bool) → (nat_lt (2 * u + 1) cols && (nat_lt (2 * v + 1) rows && not b)) ≡ true → (2 * u + 1 < cols) × (2 * v + 1 < rows)
     at b e = (grind (arith, nat_tests, e), grind (arith, nat_tests, e))
 
--- the direction of a filtered block
+-- the direction of a filtered block is the direction of its luma
 pub direction_some : (d : Deblocked) (u v : ℕ) → is_filtered d u v ≡ true → direction (luma_block d (d.x + u) (d.y + v)) ≡ block_direction d u v
 unfolding block_direction
 direction_some d u v e = rw e refl
 
--- the direction of another block
+-- the direction of a block that isn't filtered is 0
 pub direction_none : (d : Deblocked) (u v : ℕ) → is_filtered d u v ≡ false → 0 ≡ block_direction d u v
 unfolding block_direction
 direction_none d u v e = rw e refl
 
--- the variance of a filtered block
+-- the variance of a filtered block is the variance of its luma
 pub variance_some : (d : Deblocked) (u v : ℕ) → is_filtered d u v ≡ true → direction_variance (luma_block d (d.x + u) (d.y + v)) ≡ block_variance d u v
 unfolding block_variance
 variance_some d u v e = rw e refl
 
--- the variance of another block
+-- the variance of a block that isn't filtered is 0
 pub variance_none : (d : Deblocked) (u v : ℕ) → is_filtered d u v ≡ false → 0 ≡ block_variance d u v
 unfolding block_variance
 variance_none d u v e = rw e refl
@@ -108,11 +108,11 @@ columns_done d left top t h = record { shape = h.shape; dir = h.before_dir; var 
 
 -- Superblock by superblock.
 
--- no superblock has no directions
+-- a list of no superblocks has the directions of none
 pub range_none : (d : Deblocked) (w n : ℕ) → n ≡ 0 → HasRange d w n []
 range_none d w n e = record { long = sym e; each = λ x y lx l. absurd (omega arith) }
 
--- one superblock more
+-- one superblock more adds its directions to the list
 pub range_more : (d : Deblocked) (w x y : ℕ) (ts : List CdefDirections) (t : CdefDirections) → x < w → HasRange d w (y * w + x) ts → HasDirections d (8 * x) (8 * y) t
     → HasRange d w (y * w + (x + 1)) (ts ++ t ∷ [])
 range_more d w x y ts t lx h here = record {
@@ -139,11 +139,11 @@ range_more d w x y ts t lx h here = record {
       ]
     ]
 
--- the same number of places
+-- a list of directions belongs to every number that is equal to its number of superblocks
 pub range_same : (d : Deblocked) (w n m : ℕ) (ts : List CdefDirections) → n ≡ m → HasRange d w n ts → HasRange d w m ts
 range_same d w n m ts e h = rw e at h
 
--- what an entry is that was not written
+-- an entry that wasn't written is as it was
 put_other : {A : Type 0} → (X : A) (a b i j : ℕ) (v w : A) → (a ≢ i) ⊎ (b ≢ j) → X ≡ (if a == i && b == j then v else w) → X ≡ w
 put_other X a b i j v w (inl n) e = let t : (a == i) ≡ false = ne_eqb a i n in e ∙ (rw t refl)
 put_other X a b i j v w (inr n) e = let t : (b == j) ≡ false = ne_eqb b j n in e ∙ (rw t (at (a == i)))
@@ -152,11 +152,11 @@ put_other X a b i j v w (inr n) e = let t : (b == j) ≡ false = ne_eqb b j n in
     at true = refl
     at false = refl
 
--- what an entry is that was written
+-- an entry that was written is the new one
 put_here : {A : Type 0} → (X : A) (i j : ℕ) (v w : A) → X ≡ (if i == i && j == j then v else w) → X ≡ v
 put_here X i j v w e = let t : (i == i) ≡ true = eq-eqb i i refl in let s : (j == j) ≡ true = eq-eqb j j refl in e ∙ (rw (t, s) refl)
 
--- one block more of a column
+-- one block more of a column is done
 pub columns_more : (d : Deblocked) (left top i j : ℕ) (s t : CdefDirections) (dir var : ℕ) → i < 8 → j < 8 → HasDirectionColumns d left top i j s → AreDirections t
     → dir ≡ block_direction d (left + i) (top + j) → var ≡ block_variance d (left + i) (top + j)
     → ((a b : ℕ) → a < 8 → b < 8 → table_direction t a b ≡ (if a == i && b == j then dir else table_direction s a b))

@@ -10,7 +10,7 @@ use Rattle.av1_plane.specs.Numbers.{InDepth}
 use Rattle.av1_cdef.specs.Direction.{block_of_picture, IsDeepBlock}
 use Rattle.av1_cdef.proofs.Lines.{length-tabulated, get_or-tabulated}
 
--- entry k of the block
+-- the sample at entry k of a block
 abbrev entry : List ℤ → ℕ → ℕ → ℕ → ℕ → ℕ
 entry xs start step shift k = unsigned_abs (get_or xs (start + k / 8 * step + k % 8) (pos 0)) / 2 ^ shift
 
@@ -27,7 +27,7 @@ read_none xs start step shift block l = record { long = l; each = λ m h. absurd
 pub read_row : (xs : List ℤ) (start step shift i : ℕ) (block : List ℕ) → IsRead xs start step shift (8 * i + 8) block → IsRead xs start step shift (8 * (i + 1)) block
 read_row xs start step shift i block h = record { long = h.long; each = λ m l. h.each m (omega arith) }
 
--- one sample more
+-- one sample more of a block is read
 pub read_more : (xs : List ℤ) (start step shift i j v : ℕ) (block : List ℕ) → i < 8 → j < 8 → v ≡ unsigned_abs (get_or xs (start + i * step + j) (pos 0)) / 2 ^ shift → IsRead xs start step shift (8 * i + j) block → IsRead xs start step shift (8 * i + (j + 1)) (set block (8 * i + j) v)
 read_more xs start step shift i j v block li lj e h = record {
   long = length-set block (8 * i + j) v ∙ h.long;
@@ -41,14 +41,14 @@ read_more xs start step shift i j v block li lj e h = record {
   ];
 }
 
--- all samples make the block
+-- a list with all 64 samples read is the block
 pub read_all : (xs : List ℤ) (start step shift : ℕ) (block : List ℕ) → IsRead xs start step shift (8 * 8) block → block ≡ block_of_picture xs start step shift
 read_all xs start step shift block h =
     let size = length-tabulated 64 (entry xs start step shift) in
     ext_get_or 0 block (block_of_picture xs start step shift) (h.long ∙ sym size)
     (λ k l. h.each k (let long = h.long in omega arith) ∙ sym (get_or-tabulated 64 (entry xs start step shift) k (let long = h.long in omega arith)))
 
--- the samples have 8 bits
+-- the samples of a block at 8 bits are bytes
 pub block_bytes : (xs : List ℤ) (start step shift : ℕ) → IsDeepBlock (256 * 2 ^ shift) xs start step → All (λ p. p ≤ 255) (block_of_picture xs start step shift)
 block_bytes xs start step shift h k d l =
     let size = length-tabulated 64 (entry xs start step shift) in

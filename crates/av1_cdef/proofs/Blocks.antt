@@ -29,14 +29,14 @@ placed_at xs at ys first (suc n) i d e l h =
       | inr other ↦ get_or-set_other (placed xs at ys first n) (at + n) i (get_or ys (first + n) (pos 0)) (pos 0) (λ f. other (omega arith)) ∙ placed_at xs at ys first n i d e (omega arith) h
     ]
 
--- other places keep what stood
+-- places outside a run keep what stood there
 pub placed_off : (xs : List ℤ) (at : ℕ) (ys : List ℤ) (first n i : ℕ) → ((d : ℕ) → d < n → i ≢ at + d) → get_or (placed xs at ys first n) i (pos 0) ≡ get_or xs i (pos 0)
 unfolding placed
 placed_off xs at ys first zero i h = refl
 placed_off xs at ys first (suc n) i h =
     get_or-set_other (placed xs at ys first n) (at + n) i (get_or ys (first + n) (pos 0)) (pos 0) (λ f. h n (omega arith) f) ∙ placed_off xs at ys first n i (λ d l. h d (omega arith))
 
--- rows lie apart
+-- a row ends before each later row begins
 row_below : (s y i j : ℕ) → i < j → (y + i) * s + s ≤ (y + j) * s
 row_below s y i j l =
     let rows : (y + i + 1) * s ≤ (y + j) * s = mul-le-mul_right s (omega arith) in
@@ -77,11 +77,11 @@ unfolding counted
 counted_below b t x cell weight strength shift h (inl l) = omega arith
 counted_below b t x cell weight strength shift h (inr e) = rw e (omega arith)
 
--- a cell among cells
+-- each cell of a list of cells is a sample below the bound, or the mark of a missing one
 cell_ok : (b : ℕ) (cells : List ℕ) (i : ℕ) → AreCells b cells → i < length cells → Ok b (get_or cells i 0)
 cell_ok b cells i h l = All-get_or (λ c. (c < b) ⊎ (c ≡ 0x8000)) cells i 0 l h.each
 
--- two taps leave the greatest below the bound
+-- counting two taps keeps the greatest sample below the bound
 pair_below : (b : ℕ) (t : Tally) (cells : List ℕ) (at x place weight strength shift : ℕ) → place ≤ 52 → at + 52 < length cells → AreCells b cells → t.greatest < b → (counted_pair t cells at x place weight strength shift).greatest < b
 unfolding counted_pair
 pair_below b t cells at x place weight strength shift l m h g =
@@ -89,7 +89,7 @@ pair_below b t cells at x place weight strength shift l m h g =
     (counted_below b t x (get_or cells (at + place) 0) weight strength shift g (cell_ok b cells (at + place) h (omega arith)))
     (cell_ok b cells (at + (52 - place)) h (omega arith))
 
--- all taps leave the greatest below the bound
+-- counting all taps keeps the greatest sample below the bound
 tallied_below : (b : ℕ) (cells : List ℕ) (at x : ℕ) (s : Taps) → at + 52 < length cells → AreCells b cells → x < b → (tallied cells at x s).greatest < b
 unfolding tallied
 tallied_below b cells at x s m h l =

@@ -6,11 +6,11 @@ use Rattle.av1_cdef.specs.Sums.{total_below, first_greatest}
 use Rattle.av1_cdef.specs.Direction.{cost, direction, direction_variance}
 use Rattle.av1_cdef.specs.Strength.{floor_log2_up_to, constrained, adjusted_strength}
 
--- a row of zeros, and what follows
+-- a row of eight zeros before other samples
 abbrev dark : List ℕ → List ℕ
 dark rest = 0 ∷ 0 ∷ 0 ∷ 0 ∷ 0 ∷ 0 ∷ 0 ∷ 0 ∷ rest
 
--- a row of 255, and what follows
+-- a row of eight samples of 255 before other samples
 abbrev light : List ℕ → List ℕ
 light rest = 255 ∷ 255 ∷ 255 ∷ 255 ∷ 255 ∷ 255 ∷ 255 ∷ 255 ∷ rest
 
@@ -48,7 +48,7 @@ pub no_threshold : constrained (pos 10) 0 5 ≡ pos 0
 unfolding floor_log2_up_to
 no_threshold = refl
 
--- strength 4 at variance 64
+-- a strength of 4 becomes 1 at the variance 64
 pub strength_adjusted : adjusted_strength 4 64 ≡ 1
 unfolding floor_log2_up_to
 strength_adjusted = refl
@@ -59,7 +59,7 @@ strength_of_flat_block = refl
 
 -- A block of samples 100 but 102 at row 4, column 4, with the secondary strength 4 and damping 3.
 
--- a row of 100, and what follows
+-- a row of eight samples of 100 before other samples
 abbrev even_row : List ℤ → List ℤ
 even_row rest = pos 100 ∷ pos 100 ∷ pos 100 ∷ pos 100 ∷ pos 100 ∷ pos 100 ∷ pos 100 ∷ pos 100 ∷ rest
 
@@ -67,7 +67,7 @@ even_row rest = pos 100 ∷ pos 100 ∷ pos 100 ∷ pos 100 ∷ pos 100 ∷ pos 
 abbrev dotted_row : List ℤ → List ℤ
 dotted_row rest = pos 100 ∷ pos 100 ∷ pos 100 ∷ pos 100 ∷ pos 102 ∷ pos 100 ∷ pos 100 ∷ pos 100 ∷ rest
 
--- the block with the dot
+-- a block of 100 with one bright sample
 abbrev dotted : CdefPicture
 dotted = record {
   samples = even_row (even_row (even_row (even_row (dotted_row (even_row (even_row (even_row [])))))));
@@ -77,16 +77,16 @@ dotted = record {
   height = 8;
 }
 
--- the settings of the example
+-- the settings of the example with the bright sample
 abbrev gentle : Settings
 gentle = record { direction = 0; primary = 0; secondary = 4; damping = 3; scale = 1 }
 
--- the dot becomes 100
+-- the bright sample becomes 100
 pub dot_removed : filtered_at dotted gentle 0 0 4 4 ≡ pos 100
 unfolding filtered_at floor_log2_up_to
 dot_removed = refl
 
--- a sample beside the dot stays
+-- a sample beside the bright one stays
 pub beside_dot : filtered_at dotted gentle 0 0 4 5 ≡ pos 100
 unfolding filtered_at floor_log2_up_to
 beside_dot = refl

@@ -25,7 +25,7 @@ pub record IsFilled (w o : ℕ) (f : ℕ → ℕ → ℕ) (i j : ℕ) (cells : L
 abbrev zeros : List ℕ
 zeros = replicate 140 0
 
--- each of them is 0
+-- each cell of a list of zeros is 0
 zeros_at : (m : ℕ) → m < 140 → get_or zeros m 0 ≡ 0
 zeros_at m l = get_or-replicate 140 m 0 0 l
 
@@ -40,7 +40,7 @@ fill_start w o f cells small e = record {
       z ∙ (rw t refl);
 }
 
--- one cell more
+-- one cell more is written
 pub fill_more : (w o : ℕ) (f : ℕ → ℕ → ℕ) (i j v : ℕ) (cells : List ℕ) → o + w ≡ 16 → i < 8 → j < w → v ≡ f i j → v ≤ 510 → IsFilled w o f i j cells → IsFilled w o f i (j + 1) (set cells (16 * i + o + j) v)
 fill_more w o f i j v cells sixteen li lj e most h = record {
   long = length-set cells (16 * i + o + j) v ∙ h.long;
@@ -77,7 +77,7 @@ fill_row w o f i cells h = record {
       h.at r k lr lk ∙ (rw t refl);
 }
 
--- all rows are written
+-- cells with all rows written are the padded block
 pub fill_done : (w o : ℕ) (f : ℕ → ℕ → ℕ) (cells : List ℕ) → IsFilled w o f 8 0 cells → IsPaddedBlock w o f cells
 fill_done w o f cells h = record {
   long = h.long;
@@ -101,16 +101,16 @@ pub ruleset fills = (fill_row, fill_done)
 
 -- Sums along a line.
 
--- a leading 0 in a sum of eight
+-- a sum of eight terms after a leading 0 is the sum of the terms
 from_zero : (a b c d e f g h : ℕ) → 0 + a + b + c + d + e + f + g + h ≡ a + b + c + d + e + f + g + h
 from_zero a b c d e f g h = omega arith
 
--- a sum below 8, term by term
+-- a sum over the numbers below 8 is the sum of its eight terms
 eight_terms : (f : ℕ → ℕ) → total_below 8 f ≡ f 0 + f 1 + f 2 + f 3 + f 4 + f 5 + f 6 + f 7
 unfolding total_below
 eight_terms f = from_zero (f 0) (f 1) (f 2) (f 3) (f 4) (f 5) (f 6) (f 7)
 
--- two tests that imply each other
+-- two equations that imply each other have equal tests
 same_test : (a b c d : ℕ) → (a ≡ b → c ≡ d) → (c ≡ d → a ≡ b) → (a == b) ≡ (c == d)
 same_test a b c d f g = elim (cases_eq a b) [
   | inl e ↦ eq-eqb a b e ∙ sym (eq-eqb c d (f e))
@@ -136,19 +136,19 @@ pick g f n o k (suc m) h =
           rw (before, a, b) (omega arith)
     ]
 
--- a sum of two choices by one test
+-- the sum of two choices by one test is the choice of the sum
 if_plus : (t : Bool) (x y : ℕ) → (if t then x else 0) + (if t then y else 0) ≡ (if t then x + y else 0)
 if_plus true x y = refl
 if_plus false x y = refl
 
--- the sum of four pairs by four tests
+-- the sum of four pairs by four tests is the sum of their eight terms
 four : (a b c d : Bool) (x0 x1 x2 x3 x4 x5 x6 x7 : ℕ)
     → 0 + (if a then x0 else 0) + (if a then x1 else 0) + (if b then x2 else 0) + (if b then x3 else 0) + (if c then x4 else 0) + (if c then x5 else 0) + (if d then x6 else 0) + (if d then x7 else 0)
     ≡ 0 + (if a then x0 + x1 else 0) + (if b then x2 + x3 else 0) + (if c then x4 + x5 else 0) + (if d then x6 + x7 else 0)
 four a b c d x0 x1 x2 x3 x4 x5 x6 x7 =
     let p = if_plus a x0 x1 in let q = if_plus b x2 x3 in let r = if_plus c x4 x5 in let s = if_plus d x6 x7 in omega arith
 
--- two neighbours are on one line
+-- summing over neighbours on one line sums over the pairs of them
 halves : (g f : ℕ → ℕ) (n : ℕ) → total_below 8 (λ j. if g (j / 2) == n then f j else 0) ≡ total_below 4 (λ j. if g j == n then f (2 * j) + f (2 * j + 1) else 0)
 unfolding total_below
 halves g f n = four (g 0 == n) (g 1 == n) (g 2 == n) (g 3 == n) (f 0) (f 1) (f 2) (f 3) (f 4) (f 5) (f 6) (f 7)
@@ -211,29 +211,29 @@ row_3 block n i ln li = halves (λ c. 3 + i - c) (sample_in_block block i) n ∙
 
 -- The lines of direction 2 are the rows.
 
--- a test that is the same for all terms
+-- a test that doesn't depend on the term may stand before the sum
 if_sum : (t : Bool) (f : ℕ → ℕ) → total_below 8 (λ j. if t then f j else 0) ≡ (if t then total_below 8 f else 0)
 unfolding total_below
 if_sum true f = refl
 if_sum false f = refl
 
--- sums of equal terms
+-- sums of equal terms are equal
 sum_same : (f g : ℕ → ℕ) (n : ℕ) → ((i : ℕ) → i < n → f i ≡ g i) → total_below n f ≡ total_below n g
 unfolding total_below
 sum_same f g zero h = refl
 sum_same f g (suc n) h = let a = sum_same f g n (λ i l. h i (omega arith)) in let b = h n (omega arith) in omega arith
 
--- a line of direction 2 is a row
+-- a line of direction 2 is a row of the block
 line_2 : (block : List ℕ) (n : ℕ) → line_sum block 2 n ≡ padded_block 8 0 (λ i. total_below 8 (sample_in_block block i)) n
 line_2 block n =
     sum_same (row_sum block 2 n) (λ i. if i == n then total_below 8 (sample_in_block block i) else 0) 8 (λ i l. if_sum (i == n) (sample_in_block block i))
     ∙ pick (λ i. i) (λ i. total_below 8 (sample_in_block block i)) n 0 n 8 (λ j l. ap (λ m. m == n) (omega arith))
 
--- direction 2 has eight lines
+-- direction 2 has no more than eight lines
 pub line_2_past : (block : List ℕ) (n : ℕ) → 8 ≤ n → line_sum block 2 n ≡ 0
 line_2_past block n l = line_2 block n ∙ (let t : (nat_le 0 n && nat_lt n (0 + 8)) ≡ false = grind (arith, nat_tests) in rw t refl)
 
--- a line of direction 2 is four pairs
+-- a line of direction 2 is the sum of four pairs
 pub line_2_row : (block pairs : List ℕ) (n : ℕ) → n < 8 → IsPaddedBlock 4 12 (pair_cell block) pairs
     → get_or pairs (16 * n + 12) 0 + get_or pairs (16 * n + 13) 0 + get_or pairs (16 * n + 14) 0 + get_or pairs (16 * n + 15) 0 ≡ line_sum block 2 n
 unfolding pair_cell

@@ -50,7 +50,7 @@ no_sum damping x sum (t ∷ ts) h =
     let plus : sum +ℤ pos 0 ≡ sum = omega (arith, ints) in
     rw (here, plus) (no_sum damping x sum ts (λ k d l. h (suc k) d (omega arith)))
 
--- the least is no greater than where it began
+-- the least over taps is no greater than the number that it began with
 least_below : (least x : ℤ) (taps : List Tap) → least ≤ℤ x → least_of_taps least taps ≤ℤ x
 least_below least x [] l = l
 least_below least x (t ∷ ts) l = least_below (least_with least t.sample) x ts (at t.sample)
@@ -59,7 +59,7 @@ least_below least x (t ∷ ts) l = least_below (least_with least t.sample) x ts 
     at (Some v) = grind (arith, ints, nat_tests)
     at None = l
 
--- the greatest is no less than where it began
+-- the greatest over taps is no less than the number that it began with
 greatest_above : (greatest x : ℤ) (taps : List Tap) → x ≤ℤ greatest → x ≤ℤ greatest_of_taps greatest taps
 greatest_above greatest x [] l = l
 greatest_above greatest x (t ∷ ts) l = greatest_above (greatest_with greatest t.sample) x ts (at t.sample)
@@ -81,14 +81,14 @@ unmoved damping x taps h =
 abbrev IsStill : Tap → Type 0
 IsStill t = t.strength ≡ 0
 
--- the two taps of a pair have strength 0, on top of taps that do
+-- a pair of taps of strength 0 before taps of strength 0 leaves all of strength 0
 still_pair : (near : ℕ → ℕ → Option ℤ) (d k weight strength : ℕ) (rest : List Tap) → strength ≡ 0 → All IsStill rest → All IsStill (pair near d k weight strength rest)
 still_pair near d k weight strength rest e h =
     let first : Tap = record { sample = near (tap_row d k) (tap_column d k); weight = weight; strength = strength } in
     let second : Tap = record { sample = near (4 - tap_row d k) (4 - tap_column d k); weight = weight; strength = strength } in
     All-cons IsStill first (second ∷ rest) e (All-cons IsStill second rest e h)
 
--- so have all taps at one distance
+-- the taps at one distance have strength 0 where both strengths are 0
 still_taps : (near : ℕ → ℕ → Option ℤ) (s : Settings) (k : ℕ) (rest : List Tap) → s.primary ≡ 0 → s.secondary ≡ 0 → All IsStill rest → All IsStill (taps_at near s k rest)
 still_taps near s k rest p q h =
     let left = pair near ((s.direction + 6) % 8) k (secondary_weight k) s.secondary rest in
@@ -97,7 +97,7 @@ still_taps near s k rest p q h =
     (still_pair near ((s.direction + 2) % 8) k (secondary_weight k) s.secondary left q
     (still_pair near ((s.direction + 6) % 8) k (secondary_weight k) s.secondary rest q h))
 
--- without strengths a sample stays
+-- a sample filtered with strengths 0 stays as it is
 pub still_near : (near : ℕ → ℕ → Option ℤ) (s : Settings) (x : ℤ) → s.primary ≡ 0 → s.secondary ≡ 0 → filtered_near near s x ≡ x
 still_near near s x p q =
     unmoved s.damping x (taps_of near s) (still_taps near s 0 (taps_at near s 1 []) p q (still_taps near s 1 [] p q (λ k d l. absurd (omega arith))))

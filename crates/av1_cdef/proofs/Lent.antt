@@ -48,7 +48,7 @@ room_whole w h p q b r same made some lent ec er =
       height = rw (shown, er) (let e : 4 * (rounded h / 4) ≡ rounded h = omega arith in rw e (omega arith));
     }
 
--- and lies on the plane
+-- a plane that is lent whole lies on the plane's samples
 lies_whole : {X : Type 0} (number : X → ℤ) (w h : ℕ) (p q : Plane X) (r : PlaneRegionMut X) → SamePlane p q → (0 < p.cfg.width → IsPlaneLayout w h p.cfg)
     → LendsRect q (plane_rect q.cfg (whole w h)) r → LiesOn number p r
 lies_whole number w h p q r same made lent = record {
@@ -71,7 +71,7 @@ holds_whole number limit params f g b t h i same lent ec er = record {
   v = λ some. room_whole params.width params.height f.planes.v g.planes.v b t.planes.v same.v (v_made number limit params f h i some) some lent.v (ec ∙ h.columns) (er ∙ h.rows);
 }
 
--- and is the whole frame
+-- a copy of the input that is lent whole is the whole frame
 pub is_whole : {X : Type 0} (number : X → ℤ) (limit : ℕ) (params : Parameters) (f g : Frame X) (b : TileBlocks) (t : TileMut X)
     → IsFrame limit params → IsInputFor params (view_frame number f) → SameFrame f g → IsTileUnder g (whole params.width params.height) t
     → view_cols b ≡ params.w_in_b → view_rows b ≡ params.h_in_b → view_step b ≡ params.w_in_b → IsWholeFrame number params f b t

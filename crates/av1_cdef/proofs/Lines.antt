@@ -10,23 +10,23 @@ use Rattle.std.proofs.lemmas.Bool.Decides.{nat_tests}
 use Rattle.av1_cdef.specs.Sums.{total_below, tabulated, first_greatest}
 use Rattle.av1_cdef.specs.Direction.{line_of, sample_in_block, along, line_sum, line_places, line_cost, cost}
 
--- an empty sum
+-- the sum of no terms is 0
 pub sum_below_none : (f : ℕ → ℕ) → total_below 0 f ≡ 0
 unfolding total_below
 sum_below_none f = refl
 
--- one term more
+-- one term more adds to a sum
 pub sum_below_more : (k : ℕ) (f : ℕ → ℕ) → total_below (k + 1) f ≡ total_below k f + f k
 unfolding total_below
 sum_below_more k f = rw add-one refl
 
--- the length of a table
+-- a table of n values has n entries
 pub length-tabulated : (n : ℕ) (f : ℕ → ℕ) → length (tabulated n f) ≡ n
 unfolding tabulated
 length-tabulated zero f = refl
 length-tabulated (suc n) f = omega (arith, length-append (tabulated n f) (f n ∷ []), length-tabulated n f)
 
--- an entry of a table
+-- an entry of a table of values is the value at its number
 pub get_or-tabulated : (n : ℕ) (f : ℕ → ℕ) (i : ℕ) → i < n → get_or (tabulated n f) i 0 ≡ f i
 unfolding tabulated
 get_or-tabulated zero f i l = absurd (omega arith)
@@ -40,7 +40,7 @@ get_or-tabulated (suc n) f i l = elim (cases_lt i n) [
       ∙ ap f here
 ]
 
--- 840 over the length of line n
+-- 840 over the length of line n, for each line of a direction
 abbrev shares : ℕ → ℕ → ℕ
 shares d n = 840 / line_places d n
 
@@ -52,27 +52,27 @@ diagonal = 840 ∷ 420 ∷ 280 ∷ 210 ∷ 168 ∷ 140 ∷ 120 ∷ 105 ∷ 120 �
 abbrev straight : List ℕ
 straight = 105 ∷ 105 ∷ 105 ∷ 105 ∷ 105 ∷ 105 ∷ 105 ∷ 105 ∷ 0 ∷ 0 ∷ 0 ∷ 0 ∷ 0 ∷ 0 ∷ 0 ∷ 0 ∷ []
 
--- the shares of the other directions
+-- the shares of lines in the directions that are neither straight nor at 45 degrees
 abbrev slanted : List ℕ
 slanted = 420 ∷ 210 ∷ 140 ∷ 105 ∷ 105 ∷ 105 ∷ 105 ∷ 105 ∷ 140 ∷ 210 ∷ 420 ∷ 0 ∷ 0 ∷ 0 ∷ 0 ∷ 0 ∷ []
 
--- an entry of a table of shares
+-- the entry of a table of shares is the line's share
 share_by : (d n : ℕ) (table : List ℕ) → tabulated 16 (shares d) ≡ table → n < 16 → get_or table n 0 ≡ shares d n
 share_by d n table e l = ap (λ xs. get_or xs n 0) (sym e) ∙ get_or-tabulated 16 (shares d) n l
 
--- a share of direction 0 or 4
+-- a share of direction 0 or 4 is an entry of the table for diagonals
 pub share_diagonal : (d n : ℕ) → (d ≡ 0) ⊎ (d ≡ 4) → n < 16 → get_or diagonal n 0 ≡ 840 / line_places d n
 unfolding total_below tabulated
 share_diagonal d n (inl e) l = rw e (share_by 0 n diagonal refl l)
 share_diagonal d n (inr e) l = rw e (share_by 4 n diagonal refl l)
 
--- a share of direction 2 or 6
+-- a share of direction 2 or 6 is an entry of the table for straight lines
 pub share_straight : (d n : ℕ) → (d ≡ 2) ⊎ (d ≡ 6) → n < 16 → get_or straight n 0 ≡ 840 / line_places d n
 unfolding total_below tabulated
 share_straight d n (inl e) l = rw e (share_by 2 n straight refl l)
 share_straight d n (inr e) l = rw e (share_by 6 n straight refl l)
 
--- a share of another direction
+-- a share of another direction is an entry of the table for slanted lines
 pub share_slanted : (d n : ℕ) → (d ≡ 1) ⊎ (d ≡ 3) ⊎ (d ≡ 5) ⊎ (d ≡ 7) → n < 16 → get_or slanted n 0 ≡ 840 / line_places d n
 unfolding total_below tabulated
 share_slanted d n (inl e) l = rw e (share_by 1 n slanted refl l)
@@ -82,7 +82,7 @@ share_slanted d n (inr (inr (inr e))) l = rw e (share_by 7 n slanted refl l)
 
 -- Costs: no line sums up to more than 255 for each of its places, so that a cost stays below 2 ^ 32.
 
--- a bound on each term is one on the sum
+-- a bound on each term gives a bound on the sum
 sum_below_scaled : (b : ℕ) (f g : ℕ → ℕ) (m : ℕ) → ((i : ℕ) → i < m → f i ≤ b * g i) → total_below m f ≤ b * total_below m g
 unfolding total_below
 sum_below_scaled b f g zero h = omega arith
@@ -92,12 +92,12 @@ sum_below_scaled b f g (suc m) h =
     let e : b * (total_below m g + g m) ≡ b * total_below m g + b * g m = grind arith in
     omega arith
 
--- a bound on a choice
+-- a bound on a value gives a bound on a choice of the value or 0
 if_scaled : (t : Bool) (a b c : ℕ) → a ≤ b * c → (if t then a else 0) ≤ b * (if t then c else 0)
 if_scaled true a b c h = h
 if_scaled false a b c h = omega arith
 
--- a bound on each place is one on the line
+-- a bound on each place gives a bound on the sum along a line
 along_more : (d n b : ℕ) (f g : ℕ → ℕ → ℕ) → ((i j : ℕ) → i < 8 → j < 8 → f i j ≤ b * g i j) → along d n f ≤ b * along d n g
 along_more d n b f g h =
     sum_below_scaled b (λ i. total_below 8 (λ j. if line_of d i j == n then f i j else 0)) (λ i. total_below 8 (λ j. if line_of d i j == n then g i j else 0)) 8
@@ -108,7 +108,7 @@ along_more d n b f g h =
 pub line_sum_most : (block : List ℕ) (d n : ℕ) → length block ≡ 64 → All (λ p. p ≤ 255) block → line_sum block d n ≤ 255 * line_places d n
 line_sum_most block d n e h = along_more d n 255 (sample_in_block block) (λ i j. 1) (λ i j li lj. let s : get_or block (8 * i + j) 0 ≤ 255 = All-get_or (λ p. p ≤ 255) block (8 * i + j) 0 (omega arith) h in omega arith)
 
--- a bound on a share of a square
+-- a line's share of its squared sum is bounded
 square_most : (s len share : ℕ) → s ≤ 255 * len → share * len ≤ 840 → share * (s * s) ≤ 54621000 * len
 square_most s len share h e =
     let a : s * s ≤ 255 * len * (255 * len) = mul-le-mul h h in
@@ -117,11 +117,11 @@ square_most s len share h e =
     let d : share * len * (65025 * len) ≤ 840 * (65025 * len) = mul-le-mul_right (65025 * len) e in
     omega arith
 
--- a bound on the cost of a line
+-- the cost of a line of bytes is bounded
 line_cost_most : (block : List ℕ) (d n : ℕ) → length block ≡ 64 → All (λ p. p ≤ 255) block → line_cost block d n ≤ 54621000 * line_places d n
 line_cost_most block d n e h = square_most (line_sum block d n) (line_places d n) (840 / line_places d n) (line_sum_most block d n e h) (div-mul-le_self 840 (line_places d n))
 
--- a longer sum is no less
+-- a sum of more terms is no less
 sum_below_up : (f : ℕ → ℕ) (n m : ℕ) → n ≤ m → total_below n f ≤ total_below m f
 unfolding total_below
 sum_below_up f n zero l = let e : n ≡ 0 = omega arith in rw e (omega arith)
@@ -143,7 +143,7 @@ all_lengths (suc (suc (suc (suc (suc (suc zero)))))) l = refl
 all_lengths (suc (suc (suc (suc (suc (suc (suc zero))))))) l = refl
 all_lengths (suc (suc (suc (suc (suc (suc (suc (suc n)))))))) l = absurd (omega arith)
 
--- so have 16 lines
+-- the lengths of 16 lines of a direction add up to 64
 pub all_lengths_16 : (d : ℕ) → d < 8 → total_below 16 (line_places d) ≡ 64
 unfolding total_below
 all_lengths_16 zero l = refl
@@ -156,7 +156,7 @@ all_lengths_16 (suc (suc (suc (suc (suc (suc zero)))))) l = refl
 all_lengths_16 (suc (suc (suc (suc (suc (suc (suc zero))))))) l = refl
 all_lengths_16 (suc (suc (suc (suc (suc (suc (suc (suc n)))))))) l = absurd (omega arith)
 
--- there is no line 15
+-- line 15 of a direction has no place, and so no share
 no_share : (d : ℕ) → d < 8 → 840 / line_places d 15 ≡ 0
 unfolding total_below
 no_share zero l = refl
@@ -177,7 +177,7 @@ costs_most block d n ld ln e h =
     let c : total_below 16 (line_places d) ≡ 64 = all_lengths_16 d ld in
     omega arith
 
--- a bound on a square
+-- the square of a sum of at most 64 bytes is bounded
 square_64 : (s len : ℕ) → s ≤ 255 * len → len ≤ 64 → s * s ≤ 266342400
 square_64 s len h l =
     let small : s ≤ 16320 = omega arith in
@@ -198,7 +198,7 @@ length_most d n ld ln =
 pub line_square_most : (block : List ℕ) (d n : ℕ) → d < 8 → n < 16 → length block ≡ 64 → All (λ p. p ≤ 255) block → line_sum block d n * line_sum block d n ≤ 266342400
 line_square_most block d n ld ln e h = square_64 (line_sum block d n) (line_places d n) (line_sum_most block d n e h) (length_most d n ld ln)
 
--- the cost of a direction, line by line
+-- the cost of a direction is the sum of the costs of its lines
 pub cost_is : (block : List ℕ) (d : ℕ) → total_below 15 (line_cost block d) ≡ cost block d
 unfolding cost
 cost_is block d = refl
@@ -212,22 +212,22 @@ cost_16 block d l =
 
 -- The first greatest.
 
--- the first of one
+-- the first greatest of one number is the number 0
 pub first_none : (f : ℕ → ℕ) → first_greatest 0 f ≡ 0
 unfolding first_greatest
 first_none f = refl
 
--- a greater one takes over
+-- a value that is greater than all before becomes the greatest
 pub first_better : (n : ℕ) (f : ℕ → ℕ) → f (first_greatest n f) < f (n + 1) → first_greatest (n + 1) f ≡ n + 1
 unfolding first_greatest
 first_better n f h = rw add-one (let t : nat_lt (f (first_greatest n f)) (f (suc n)) ≡ true = grind (arith, nat_tests) in rw t refl)
 
--- one no greater does not
+-- a value that is no greater leaves the first greatest as it was
 pub first_kept : (n : ℕ) (f : ℕ → ℕ) → f (n + 1) ≤ f (first_greatest n f) → first_greatest (n + 1) f ≡ first_greatest n f
 unfolding first_greatest
 first_kept n f h = rw add-one (let t : nat_lt (f (first_greatest n f)) (f (suc n)) ≡ false = grind (arith, nat_tests) in rw t refl)
 
--- the first greatest is among them
+-- the first greatest number is one of the numbers up to n
 pub first_inside : (n : ℕ) (f : ℕ → ℕ) → first_greatest n f ≤ n
 unfolding first_greatest
 first_inside zero f = omega arith
@@ -237,7 +237,7 @@ first_inside (suc n) f = at (nat_lt (f (first_greatest n f)) (f (suc n))) (first
     at true h = omega arith
     at false h = omega arith
 
--- equal costs have the same first greatest
+-- functions that are equal up to n have the same first greatest number up to n
 pub first_same : (n : ℕ) (f g : ℕ → ℕ) → ((d : ℕ) → d ≤ n → f d ≡ g d) → first_greatest n f ≡ first_greatest n g
 unfolding first_greatest
 first_same zero f g h = refl
@@ -248,7 +248,7 @@ first_same (suc n) f g h =
     let b : f (suc n) ≡ g (suc n) = h (suc n) (omega arith) in
     rw (r, a, b) refl
 
--- the entries of a list of eight
+-- a list of eight values has the function's value at each number
 pub eight : (f : ℕ → ℕ) (a b c d e g h i : ℕ) → a ≡ f 0 → b ≡ f 1 → c ≡ f 2 → d ≡ f 3 → e ≡ f 4 → g ≡ f 5 → h ≡ f 6 → i ≡ f 7 → (n : ℕ) → n < 8 → get_or (a ∷ b ∷ c ∷ d ∷ e ∷ g ∷ h ∷ i ∷ []) n 0 ≡ f n
 eight f a b c d e g h i pa pb pc pd pe pg ph pi zero l = pa
 eight f a b c d e g h i pa pb pc pd pe pg ph pi (suc zero) l = pb
@@ -260,7 +260,7 @@ eight f a b c d e g h i pa pb pc pd pe pg ph pi (suc (suc (suc (suc (suc (suc ze
 eight f a b c d e g h i pa pb pc pd pe pg ph pi (suc (suc (suc (suc (suc (suc (suc zero))))))) l = pi
 eight f a b c d e g h i pa pb pc pd pe pg ph pi (suc (suc (suc (suc (suc (suc (suc (suc n)))))))) l = absurd (omega arith)
 
--- the variance from two costs
+-- the variance is the difference of two costs over 1024
 pub margin_is : (g : ℕ → ℕ) (x y b d r : ℕ) → b ≡ d → x ≡ g b → y ≡ g ((b + 4) % 8) → r ≡ (x - y) / 1024 → r ≡ (g d - g ((d + 4) % 8)) / 1024
 margin_is g x y b d r e p q h = rw (h, p, q, e) refl
 

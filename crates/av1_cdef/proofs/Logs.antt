@@ -6,7 +6,7 @@ use Rattle.std.proofs.lemmas.Bool.{cases_lt}
 use Rattle.std.proofs.lemmas.Bool.Decides.{nat_tests}
 use Rattle.av1_cdef.specs.Strength.{floor_log2_up_to}
 
--- twice a power of 2
+-- the number 2 is positive
 two : 0 < 2
 two = lit< tt
 
@@ -47,11 +47,11 @@ log2_most n k h l = elim (cases_lt 7 k) [
   | inr most ↦ most
 ]
 
--- the logarithm of a strength
+-- the logarithm of a strength is the k whose power of 2 it reaches and doesn't double
 pub log2_strength : (n k : ℕ) → n < 256 → 2 ^ k ≤ n → n < 2 * 2 ^ k → floor_log2_up_to 7 n ≡ k
 log2_strength n k l h m = let most : k ≤ 7 = log2_most n k h l in log2_is 7 n k h m ∙ omega arith
 
--- a number is below twice the power
+-- a number below twice the greatest power is below twice the power of its logarithm
 log2_up_to_below : (most n : ℕ) → n < 2 * 2 ^ most → (floor_log2_up_to most n ≤ most) × (n < 2 * 2 ^ floor_log2_up_to most n)
 unfolding floor_log2_up_to
 log2_up_to_below zero n l = (omega arith, l)
@@ -66,7 +66,7 @@ log2_up_to_below (suc m) n l = elim (cases_lt n (2 ^ suc m)) [
       rw t (omega arith, l)
 ]
 
--- a strength is below twice the power
+-- a strength is below twice the power of its logarithm
 pub log2_below : (n : ℕ) → n < 256 → (floor_log2_up_to 7 n ≤ 7) × (n < 2 * 2 ^ floor_log2_up_to 7 n)
 log2_below n l = log2_up_to_below 7 n l
 

@@ -64,7 +64,7 @@ header_made limit p h = record {
 
 -- Planes.
 
--- a plane whose samples are in range shows such a picture
+-- a plane whose samples are in range shows a picture in range
 deep_made : {X : Type 0} (number : X → ℤ) (depth : ℕ) (p : Plane X) → 8 ≤ depth → IsInRange (2 ^ depth) (view_plane number p) → IsDeep (256 * 2 ^ (depth - 8)) (plane_picture number p)
 deep_made number depth p l h = record {
   each = λ x y lx ly.
@@ -73,7 +73,7 @@ deep_made number depth p l h = record {
       (subst (λ n. InDepth n (get_or (map number p.samples.items) ((p.cfg.yorigin + y) * p.cfg.stride + (p.cfg.xorigin + x)) (pos 0))) (power_split depth l) (h x y lx ly));
 }
 
--- the layout of a plane that is not empty, of a frame of these sides
+-- the layout of a plane with samples, of a frame of these sides
 pub record IsPlaneLayout (w h : ℕ) (cfg : PlaneConfig) : Type 0 where
   pub sampling : ((cfg.xdec ≡ 0) × (cfg.ydec ≡ 0)) ⊎ ((cfg.xdec ≡ 1) × (cfg.ydec ≡ 0)) ⊎ ((cfg.xdec ≡ 1) × (cfg.ydec ≡ 1))
   pub width : cfg.width ≡ rounded w / 2 ^ cfg.xdec
@@ -81,11 +81,11 @@ pub record IsPlaneLayout (w h : ℕ) (cfg : PlaneConfig) : Type 0 where
   pub narrow : cfg.stride < 2 ^ 32
   pub some : 0 < cfg.height
 
--- that of luma
+-- the luma plane of a frame has the layout of a plane with samples
 luma_layout : (w h : ℕ) (cfg : PlaneConfig) → w ≤ 65536 → 1 ≤ h → cfg ≡ plane_layout (rounded w) (rounded h) 0 0 88 88 → IsPlaneLayout w h cfg
 luma_layout w h cfg lw lh e = rw e record { sampling = inl (refl, refl); width = omega arith; height = omega arith; narrow = omega arith; some = omega arith }
 
--- that of chroma
+-- a chroma plane of a frame has the layout of a plane with samples, where it has a column
 chroma_made : (w h : ℕ) (s : ChromaSampling) (cfg : PlaneConfig) → w ≤ 65536 → 1 ≤ h → cfg ≡ chroma_layout (rounded w) (rounded h) (decimation s) → 0 < cfg.width → IsPlaneLayout w h cfg
 chroma_made w h Cs420 cfg lw lh e some = rw e record { sampling = inr (inr (refl, refl)); width = refl; height = refl; narrow = omega arith; some = omega arith }
 chroma_made w h Cs422 cfg lw lh e some = rw e record { sampling = inr (inl (refl, refl)); width = refl; height = refl; narrow = omega arith; some = omega arith }
@@ -124,29 +124,29 @@ plane_made number depth w h right bottom luma p b r ld ew eh made range room lr 
 
 -- Frames.
 
--- the layout of luma
+-- the luma plane of an input has the layout of the frame's luma
 y_layout : {X : Type 0} (number : X → ℤ) (params : Parameters) (f : Frame X) → IsInputFor params (view_frame number f)
     → f.planes.y.cfg ≡ plane_layout (rounded params.width) (rounded params.height) 0 0 88 88
 y_layout number params f i = ap (λ (t : Three PlaneConfig). t.y) i.layout
 
--- luma has the layout of the frame
+-- the luma plane of a frame has a layout and a range that CDEF can read
 pub y_made : {X : Type 0} (number : X → ℤ) (limit : ℕ) (params : Parameters) (f : Frame X) → IsFrame limit params → IsInputFor params (view_frame number f)
     → IsPlaneLayout params.width params.height f.planes.y.cfg
 y_made number limit params f h i = luma_layout params.width params.height f.planes.y.cfg h.width.1 h.height.0 (y_layout number params f i)
 
--- so has the first chroma plane, where it is not empty
+-- the U plane of a frame, where it has samples, has a layout and a range that CDEF can read
 pub u_made : {X : Type 0} (number : X → ℤ) (limit : ℕ) (params : Parameters) (f : Frame X) → IsFrame limit params → IsInputFor params (view_frame number f)
     → 0 < f.planes.u.cfg.width → IsPlaneLayout params.width params.height f.planes.u.cfg
 u_made number limit params f h i some =
     chroma_made params.width params.height params.sequence.chroma_sampling f.planes.u.cfg h.width.1 h.height.0 (ap (λ (t : Three PlaneConfig). t.u) i.layout) some
 
--- so has the second chroma plane, where it is not empty
+-- the V plane of a frame, where it has samples, has a layout and a range that CDEF can read
 pub v_made : {X : Type 0} (number : X → ℤ) (limit : ℕ) (params : Parameters) (f : Frame X) → IsFrame limit params → IsInputFor params (view_frame number f)
     → 0 < f.planes.v.cfg.width → IsPlaneLayout params.width params.height f.planes.v.cfg
 v_made number limit params f h i some =
     chroma_made params.width params.height params.sequence.chroma_sampling f.planes.v.cfg h.width.1 h.height.0 (ap (λ (t : Three PlaneConfig). t.v) i.layout) some
 
--- a frame made for its parameters can be read by way of a view made for it
+-- a frame made for its parameters can be read with a view made for it
 pub frame_read : {X : Type 0} (number : X → ℤ) (limit : ℕ) (params : Parameters) (f : Frame X) (b : TileBlocks)
     → IsFrame limit params → IsInputFor params (view_frame number f) → IsViewFor params b → CanReadFrame number limit params f.planes.y b
 frame_read number limit params f b h i v =
@@ -185,7 +185,7 @@ frame_read number limit params f b h i v =
       };
     }
 
--- its luma plane can be filtered
+-- the luma plane of a frame made for its parameters can be filtered
 pub y_filtered : {X : Type 0} (number : X → ℤ) (limit right bottom : ℕ) (params : Parameters) (f : Frame X) (b : TileBlocks) (r : PlaneRegionMut X)
     → IsFrame limit params → IsInputFor params (view_frame number f) → (0 < f.planes.y.cfg.width → HasViewRoom f.planes.y.cfg b r) → right ≤ view_cols b / 2 → bottom ≤ view_rows b / 2 → 0 < f.planes.y.cfg.width
     → CanFilter number (2 ^ (params.sequence.bit_depth - 8)) (f.planes.y.cfg.width / 8) (f.planes.y.cfg.height / 8) right bottom f.planes.y r
@@ -195,7 +195,7 @@ y_filtered number limit right bottom params f b r h i room lr lb some =
     (depth_low limit params.sequence.bit_depth h.depth) (ap (λ (c : PlaneConfig). c.width) layout) (ap (λ (c : PlaneConfig). c.height) layout)
     (y_made number limit params f h i) i.y_range (room some) lr lb
 
--- its first chroma plane can be filtered
+-- the U plane of a frame made for its parameters can be filtered
 pub u_filtered : {X : Type 0} (number : X → ℤ) (limit right bottom : ℕ) (params : Parameters) (f : Frame X) (b : TileBlocks) (r : PlaneRegionMut X)
     → IsFrame limit params → IsInputFor params (view_frame number f) → (0 < f.planes.u.cfg.width → HasViewRoom f.planes.u.cfg b r) → right ≤ view_cols b / 2 → bottom ≤ view_rows b / 2 → 0 < f.planes.u.cfg.width
     → CanFilter number (2 ^ (params.sequence.bit_depth - 8)) (f.planes.y.cfg.width / 8) (f.planes.y.cfg.height / 8) right bottom f.planes.u r
@@ -205,7 +205,7 @@ u_filtered number limit right bottom params f b r h i room lr lb some =
     (depth_low limit params.sequence.bit_depth h.depth) (ap (λ (c : PlaneConfig). c.width) layout) (ap (λ (c : PlaneConfig). c.height) layout)
     (u_made number limit params f h i some) i.u_range (room some) lr lb
 
--- its second chroma plane can be filtered
+-- the V plane of a frame made for its parameters can be filtered
 pub v_filtered : {X : Type 0} (number : X → ℤ) (limit right bottom : ℕ) (params : Parameters) (f : Frame X) (b : TileBlocks) (r : PlaneRegionMut X)
     → IsFrame limit params → IsInputFor params (view_frame number f) → (0 < f.planes.v.cfg.width → HasViewRoom f.planes.v.cfg b r) → right ≤ view_cols b / 2 → bottom ≤ view_rows b / 2 → 0 < f.planes.v.cfg.width
     → CanFilter number (2 ^ (params.sequence.bit_depth - 8)) (f.planes.y.cfg.width / 8) (f.planes.y.cfg.height / 8) right bottom f.planes.v r
@@ -215,7 +215,7 @@ v_filtered number limit right bottom params f b r h i room lr lb some =
     (depth_low limit params.sequence.bit_depth h.depth) (ap (λ (c : PlaneConfig). c.width) layout) (ap (λ (c : PlaneConfig). c.height) layout)
     (v_made number limit params f h i some) i.v_range (room some) lr lb
 
--- a row of blocks is half a row of units
+-- a frame has half as many blocks as units in a row
 pub blocks_wide : {X : Type 0} (number : X → ℤ) (limit : ℕ) (params : Parameters) (f : Frame X) → IsFrame limit params → IsInputFor params (view_frame number f) → f.planes.y.cfg.width / 8 ≡ params.w_in_b / 2
 blocks_wide number limit params f h i =
     let wide : f.planes.y.cfg.width ≡ rounded params.width = ap (λ (c : PlaneConfig). c.width) (y_layout number params f i) in

@@ -10,11 +10,11 @@ use Rattle.av1_cdef.specs.Pad.{missing, HasCellRun, plain_cells, none_cells, sid
 use Rattle.av1_cdef.specs.declared.pad.Sides.{Sides}
 use Rattle.std.proofs.Math.Nat.{mul-le-mul_right}
 
--- an empty run changes nothing
+-- a run of no cells changes nothing
 pub run_none : (at : ℕ) (value : ℕ → ℕ) (xs : List ℕ) → HasCellRun at 0 value xs xs
 run_none at value xs = record { long = refl; on = λ k l. absurd (omega arith); off = λ i h. refl }
 
--- one cell more
+-- one cell more of a run is written
 pub run_more : (at n : ℕ) (value : ℕ → ℕ) (xs ys : List ℕ) (v : ℕ) → at + n < length xs → HasCellRun at n value xs ys → v ≡ value n → HasCellRun at (n + 1) value xs (set ys (at + n) v)
 run_more at n value xs ys v l h e = record {
   long = length-set ys (at + n) v ∙ h.long;
@@ -25,19 +25,19 @@ run_more at n value xs ys v l h e = record {
   off = λ i f. get_or-set_other ys (at + n) i v 0 (λ g. f n (omega arith) g) ∙ h.off i (λ k lk. f k (omega arith));
 }
 
--- a cell of a sample
+-- the cell of a sample is the sample's size
 pub plain_is : (xs : List ℤ) (from k : ℕ) → unsigned_abs (get_or xs (from + k) (pos 0)) ≡ plain_cells xs from k
 unfolding plain_cells
 plain_is xs from k = refl
 
--- a cell past the plane
+-- the cell of a missing sample is the mark CDEF_VERY_LARGE
 pub none_is : (k : ℕ) → 0x8000 ≡ none_cells k
 unfolding none_cells
 none_is k = refl
 
 pub ruleset runs = (run_none, run_more, plain_is, none_is)
 
--- three runs, one behind the other
+-- three runs of cells, one behind another, are one run
 pub runs_joined : (at a b c : ℕ) (f g h value : ℕ → ℕ) (xs ys zs ws : List ℕ) → HasCellRun at a f xs ys → HasCellRun (at + a) b g ys zs → HasCellRun (at + a + b) c h zs ws
     → ((k : ℕ) → k < a → f k ≡ value k) → ((k : ℕ) → k < b → g k ≡ value (a + k)) → ((k : ℕ) → k < c → h k ≡ value (a + b + k)) → HasCellRun at (a + b + c) value xs ws
 runs_joined at a b c f g h value xs ys zs ws p q r sf sg sh = record {
@@ -60,19 +60,19 @@ runs_joined at a b c f g h value xs ys zs ws p q r sf sg sh = record {
 
 -- The sides of a row.
 
--- a side with samples
+-- a side that the plane has is filled with samples
 pub side_there : (at from : ℕ) (side : Bool) (xs : List ℤ) (ys zs : List ℕ) → side ≡ true → HasCellRun at 2 (plain_cells xs from) ys zs → HasCellRun at 2 (side_cells xs from side) ys zs
 unfolding plain_cells side_cells
 side_there at from side xs ys zs e h = rw e record { long = h.long; on = h.on; off = h.off }
 
--- a side without samples
+-- a side that the plane does not have is filled with marks
 pub side_missing : (at from : ℕ) (side : Bool) (xs : List ℤ) (ys zs : List ℕ) → side ≡ false → HasCellRun at 2 none_cells ys zs → HasCellRun at 2 (side_cells xs from side) ys zs
 unfolding none_cells side_cells
 side_missing at from side xs ys zs e h = rw e record { long = h.long; on = h.on; off = h.off }
 
 pub ruleset sides = (side_there, side_missing)
 
--- the two cells left of a row
+-- the two cells left of a row are samples or marks
 left_is : (xs : List ℤ) (place w : ℕ) (left right : Bool) → (left ≡ true → 2 ≤ place) → (k : ℕ) → k < 2 → side_cells xs (place - 2) left k ≡ row_cells xs place w left right k
 unfolding side_cells row_cells
 left_is xs place w true right h k l =
@@ -81,7 +81,7 @@ left_is xs place w true right h k l =
     rw (m, e) refl
 left_is xs place w false right h k l = let m : missing k w false right ≡ true = grind (arith, nat_tests) in rw m refl
 
--- the cells of a row
+-- the cells of a row between its sides are samples
 middle_is : (xs : List ℤ) (place w : ℕ) (left right : Bool) (k : ℕ) → k < w → plain_cells xs place k ≡ row_cells xs place w left right (2 + k)
 unfolding plain_cells row_cells
 middle_is xs place w left right k l =
@@ -89,7 +89,7 @@ middle_is xs place w left right k l =
     let e : place + k ≡ place + (2 + k) - 2 = omega arith in
     rw (m, e) refl
 
--- the two cells right of a row
+-- the two cells right of a row are samples or marks
 right_is : (xs : List ℤ) (place w : ℕ) (left right : Bool) (k : ℕ) → k < 2 → side_cells xs (place + w) right k ≡ row_cells xs place w left right (2 + w + k)
 unfolding side_cells row_cells
 right_is xs place w left true k l =
@@ -98,7 +98,7 @@ right_is xs place w left true k l =
     rw (m, e) refl
 right_is xs place w left false k l = let m : missing (2 + w + k) w left false ≡ true = grind (arith, nat_tests) in rw m refl
 
--- a row with its two sides
+-- a row of cells is its samples between its two sides
 pub row_padded : (at place w : ℕ) (left right : Bool) (xs : List ℤ) (a b c d : List ℕ) → (left ≡ true → 2 ≤ place) → HasCellRun at 2 (side_cells xs (place - 2) left) a b → HasCellRun (at + 2) w (plain_cells xs place) b c
     → HasCellRun (at + 2 + w) 2 (side_cells xs (place + w) right) c d → HasCellRun at (w + 4) (row_cells xs place w left right) a d
 row_padded at place w left right xs a b c d h p q r =
@@ -123,12 +123,12 @@ pub ruleset rows = (row_padded)
 
 -- Rows of a window.
 
--- a row past the plane
+-- a row past the plane is a row of marks
 pub line_missing : (at place step w h y : ℕ) (s : Sides) (xs : List ℤ) (a b : List ℕ) → missing y h s.top s.bottom ≡ true → HasCellRun at (w + 4) none_cells a b → HasCellRun at (w + 4) (window_cells xs place step w h s y) a b
 unfolding none_cells window_cells
 line_missing at place step w h y s xs a b e h' = record { long = h'.long; on = λ k l. h'.on k l ∙ (rw e refl); off = h'.off }
 
--- a row of the plane
+-- a row of the plane is a row of samples with two sides
 pub line_there : (at place step w h y : ℕ) (s : Sides) (xs : List ℤ) (a b : List ℕ) → missing y h s.top s.bottom ≡ false → HasCellRun at (w + 4) (row_cells xs (place + y * step - 2 * step) w s.left s.right) a b → HasCellRun at (w + 4) (window_cells xs place step w h s y) a b
 unfolding window_cells
 line_there at place step w h y s xs a b e h' = record { long = h'.long; on = λ k l. h'.on k l ∙ (rw e refl); off = h'.off }
@@ -139,7 +139,7 @@ pub record RowInside (n from w : ℕ) (left right : Bool) : Type 0 where
   pub inside : from + w ≤ n
   pub after : right ≡ true → from + w + 2 ≤ n
 
--- the rows above a block
+-- two rows above a block lie in the list where the block has them
 top_rows : (y step : ℕ) → 2 ≤ y → 2 * step ≤ y * step
 top_rows y step l = mul-le-mul_right step l
 
@@ -165,14 +165,14 @@ row_inside_window n place step w h y s hold ly m =
 
 pub ruleset lines = (line_missing, line_there)
 
--- two rows less, and two rows
+-- the place two rows before row y, and two rows more, is the place of row y
 pub rows_after : (y step : ℕ) → 2 ≤ y → (y - 2) * step + 2 * step ≡ y * step
 rows_after y step l = go (y - 2) (omega arith)
   where
     go : (z : ℕ) → y ≡ z + 2 → z * step + 2 * step ≡ y * step
     go z e = rw e (grind arith)
 
--- the rows that lack to two
+-- the rows that a block lacks above and the ones it has make two
 pub rows_before : (y step : ℕ) → y < 2 → (2 - y) * step + y * step ≡ 2 * step
 rows_before y step l = go (2 - y) (omega arith)
   where
@@ -181,18 +181,18 @@ rows_before y step l = go (2 - y) (omega arith)
 
 pub ruleset places = (rows_after, rows_before)
 
--- one row more
+-- no rows of cells are written yet
 pub cells_none : (stride w : ℕ) (value : ℕ → ℕ → ℕ) (xs : List ℕ) → HasPaddedCells stride w 0 value xs xs
 cells_none stride w value xs = record { long = refl; on = λ y k ly lk. absurd (omega arith); off = λ i f. refl }
 
--- rows lie apart
+-- a row ends before each later row begins
 apart : (s i j : ℕ) → i < j → i * s + s ≤ j * s
 apart s i j l =
     let rows : (i + 1) * s ≤ j * s = mul-le-mul_right s (omega arith) in
     let more : (i + 1) * s ≡ i * s + s = grind arith in
     omega arith
 
--- one row of cells more
+-- one row of cells more is written
 pub cells_more : (stride w h : ℕ) (value : ℕ → ℕ → ℕ) (xs ys zs : List ℕ) → w + 4 ≤ stride → HasPaddedCells stride w h value xs ys → HasCellRun (h * stride) (w + 4) (value h) ys zs → HasPaddedCells stride w (h + 1) value xs zs
 cells_more stride w h value xs ys zs wide c r = record {
   long = r.long ∙ c.long;

@@ -12,7 +12,7 @@ use Rattle.av1_cdef.proofs.LawProofs.{still_near}
 use Rattle.std.specs.Int.RustNames.{unsigned_abs}
 use Rattle.av1_cdef.specs.Part.{copied_at, block_sample, part_sample, all_skipped, settings_by, table_direction, table_variance, sides_at}
 
--- a filter without strengths copies
+-- a filter without strengths copies each sample
 still_at : (p : CdefPicture) (s : Settings) (x y i j : ℕ) → (s.primary == 0 && s.secondary == 0) ≡ true → copied_at p x y i j ≡ filtered_at p s x y i j
 unfolding copied_at filtered_at
 still_at p s x y i j e =
@@ -24,7 +24,7 @@ unfolding block_sample
 sample_copied p true s x y i j e = refl
 sample_copied p false s x y i j e = still_at p s x y i j e
 
--- any other block is filtered
+-- a block that is neither skipped nor without strengths is filtered
 pub sample_filtered : (p : CdefPicture) (skip : Bool) (s : Settings) (x y i j : ℕ) → (skip || s.primary == 0 && s.secondary == 0) ≡ false → filtered_at p s x y i j ≡ block_sample p skip s x y i j
 unfolding block_sample
 sample_filtered p true s x y i j e = absurd cc
@@ -63,7 +63,7 @@ after_none w b n size l h e = let last : n ≡ b + 1 = grind (arith, nat_tests) 
 pub block_fits : (w b n size : ℕ) → b < n → size ≡ w * n → w * b + w ≤ size
 block_fits w b n size l h = let m : w * (b + 1) ≤ w * n = mul-le-mul_left w (omega arith) in let s : w * (b + 1) ≡ w * b + w = grind arith in omega arith
 
--- a block and its sides
+-- a block of a plane and the sides on which the plane goes on
 pub block_of : (p : CdefPicture) (w h bx by cols rows : ℕ) → 4 ≤ w → 4 ≤ h → p.width ≡ w * cols → p.height ≡ h * rows → bx < cols → by < rows → IsBlockOf p (w * bx) (h * by) w h (sides_at bx by cols rows)
 block_of p w h bx by cols rows lw lh ew eh lx ly = record {
   left = before_two w bx lw;

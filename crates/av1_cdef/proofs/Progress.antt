@@ -1,4 +1,4 @@
--- Blocks that become those of a definition, one after another.
+-- Blocks of a region that become a definition's blocks, one after another.
 use Rattle.std.proofs.Common.{◌≡◌, ℕ, ℤ, pos, ◌+◌, ◌*◌, ◌<◌, ◌≤◌, List, get_or, refl, ◌∙◌, ap, arith, inl, inr}
 use Rattle.std.proofs.Math.Nat.{mul-le-mul_right, mul-le-mul_left}
 use Rattle.std.proofs.lemmas.Bool.{cases_lt}
@@ -6,7 +6,7 @@ use Rattle.av1_plane.specs.Region.{spot}
 use Rattle.av1_cdef.specs.Cells.{HasBlock}
 use Rattle.av1_cdef.specs.Done.{IsBefore, HasFilteredBlocks}
 
--- rows lie apart
+-- a row ends before each later row begins
 rows_apart : (s i j : ℕ) → i < j → i * s + s ≤ j * s
 rows_apart s i j l =
     let rows : (i + 1) * s ≤ j * s = mul-le-mul_right s (omega arith) in
@@ -45,7 +45,7 @@ blocks_none start step w h x0 x1 y0 value xs = record {
   off = λ k f. refl;
 }
 
--- one block more
+-- one block more of a part is done
 pub blocks_more : (start step w h x0 x1 y0 bx by : ℕ) (value : ℕ → ℕ → ℕ → ℕ → ℤ) (xs ys zs : List ℤ) → x0 ≤ bx → bx < x1 → y0 ≤ by → w * x1 ≤ step
     → HasFilteredBlocks start step w h x0 x1 y0 bx by value xs ys → HasBlock start step (w * bx) (h * by) w h (value bx by) ys zs → HasFilteredBlocks start step w h x0 x1 y0 (bx + 1) by value xs zs
 blocks_more start step w h x0 x1 y0 bx by value xs ys zs lx rx ly wide d b = record {

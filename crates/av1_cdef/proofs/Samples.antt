@@ -41,28 +41,28 @@ pub record IsTally (t : Tally) (sum least greatest : ℤ) : Type 0 where
   pub high : pos t.greatest ≡ greatest
   pub small : t.least < 4096
 
--- a sample, or the cell past the plane
+-- a cell is a sample below 4096 or the mark of a missing one
 abbrev pub CellOk : ℕ → Type 0
 CellOk c = (c < 4096) ⊎ (c ≡ 0x8000)
 
--- a weight times a negative pull
+-- a weight times a negative pull is the negative of their product
 times_neg : (w m : ℕ) → pos w *ℤ neg_ℤ (pos m) ≡ neg_ℤ (pos (w * m))
 times_neg w zero = let z : w * 0 ≡ 0 = omega arith in rw z refl
 times_neg w (suc m) = refl
 
--- a pull downwards
+-- a pull downwards alone moves the sum down
 down_alone : (u d n : ℕ) (sum : ℤ) → pos u -ℤ pos d ≡ sum → pos (u + 0) -ℤ pos (d + n) ≡ sum +ℤ neg_ℤ (pos n)
 down_alone u d n sum e = omega (arith, ints)
 
--- a pull upwards
+-- a pull upwards alone moves the sum up
 up_alone : (u d n : ℕ) (sum : ℤ) → pos u -ℤ pos d ≡ sum → pos (u + n) -ℤ pos (d + 0) ≡ sum +ℤ pos n
 up_alone u d n sum e = omega (arith, ints)
 
--- a cell below the sample
+-- a difference is negative where the cell is below the sample
 below_is : (x c : ℕ) → is_negative (pos c -ℤ pos x) ≡ nat_lt c x
 below_is x c = grind (arith, ints, nat_tests)
 
--- a pull with its sign
+-- a pull counts up or down by the sign of its difference
 signed_pull : (x c w strength shift : ℕ) (t : Tally) (sum : ℤ) → pos t.up -ℤ pos t.down ≡ sum →
     (pos (t.up + w * pull (c - x) strength shift) -ℤ pos (t.down + w * pull (x - c) strength shift))
     ≡ sum +ℤ pos w *ℤ with_sign (pos c -ℤ pos x) (pull (abs_diff x c) strength shift)
@@ -81,11 +81,11 @@ signed_pull x c w strength shift t sum e = rw (below_is x c) (elim (cases_lt c x
       rw (b, p, z, s) (up_alone t.up t.down (w * pull (c - x) strength shift) sum e)
 ])
 
--- how far a cell is from the sample
+-- the size of a difference is the distance of a cell from the sample
 distance_is : (x c : ℕ) → unsigned_abs (pos c -ℤ pos x) ≡ abs_diff x c
 distance_is x c = grind (arith, ints)
 
--- one tap more
+-- counting one tap more keeps what a tally stands for
 pub counted_is : (x c w strength damping shift : ℕ) (t : Tally) (sum least greatest : ℤ) (o : Option ℤ) → x < 4096 → CellOk c → strength ≤ 240 → damping ≤ 10 → shift ≡ damping - floor_log2 strength → seen c ≡ o
     → IsTally t sum least greatest → IsTally (counted t x c w strength shift) (sum +ℤ tap_pull damping (pos x) (record { sample = o; weight = w; strength = strength })) (least_with least o) (greatest_with greatest o)
 unfolding counted
@@ -108,16 +108,16 @@ counted_is x c w strength damping shift t sum least greatest o lx (inr e) ls ld 
       small = let s = h.small in omega arith;
     }
 
--- the cells near a sample, seen as samples
+-- the cells near a sample are the samples near it
 pub record AreSeen (cells : List ℕ) (at : ℕ) (near : ℕ → ℕ → Option ℤ) : Type 0 where
   pub inside : (r c : ℕ) → r ≤ 4 → c ≤ 4 → CellOk (get_or cells (at + (12 * r + c)) 0)
   pub each : (r c : ℕ) → r ≤ 4 → c ≤ 4 → seen (get_or cells (at + (12 * r + c)) 0) ≡ near r c
 
--- a tap
+-- a tap by its sample, weight and strength
 abbrev tap : Option ℤ → ℕ → ℕ → Tap
 tap o w strength = record { sample = o; weight = w; strength = strength }
 
--- the two taps of a pair
+-- counting the two taps of a pair keeps what a tally stands for
 pair_is : (cells : List ℕ) (at x place r c w strength damping shift : ℕ) (near : ℕ → ℕ → Option ℤ) (t : Tally) (sum least greatest : ℤ) → AreSeen cells at near → x < 4096 → r ≤ 4 → c ≤ 4 → place ≡ 12 * r + c
     → strength ≤ 240 → damping ≤ 10 → shift ≡ damping - floor_log2 strength → IsTally t sum least greatest
     → IsTally (counted_pair t cells at x place w strength shift)
@@ -147,7 +147,7 @@ column_most d k = at (d == 5) (d == 6) (d == 7) (k == 0)
     at : (a b c f : Bool) → (if a then (if f then 2 else 3) else if b then 2 else if c then (if f then 2 else 1) else if f then 3 else 4) ≤ 4
     at a b c f = grind arith
 
--- all taps
+-- the tally of all taps has the sum, the least and the greatest of the definition
 pub tallied_is : (cells : List ℕ) (at x : ℕ) (s : Settings) (t : Taps) (near : ℕ → ℕ → Option ℤ) → AreSeen cells at near → x < 4096 → InRange s → HasTaps s t
     → IsTally (tallied cells at x t) (sum_of_taps s.damping (pos x) (pos 0) (taps_of near s)) (least_of_taps (pos x) (taps_of near s)) (greatest_of_taps (pos x) (taps_of near s))
 unfolding tallied
@@ -161,11 +161,11 @@ tallied_is cells at x s t near are lx r h =
     (pair_is cells at x _ (tap_row s.direction 0) (tap_column s.direction 0) (primary_weight s.primary s.scale 0) s.primary s.damping _ near _ (pos 0) (pos x) (pos x) are lx (row_most s.direction 0) (column_most s.direction 0) refl r.primary r.damping h.primary_shift
     record { total = refl; low = refl; high = refl; small = lx }))))))
 
--- a sum upwards, rounded
+-- a sixteenth of a sum upwards is rounded as the definition rounds it
 shifted_up : (d : ℕ) → int_shr (pos 8 +ℤ pos d -ℤ pos 0) 4 ≡ pos ((d + 8) / 16)
 shifted_up d = let e : 8 + d + 0 ≡ d + 8 = omega arith in ap (λ n. pos (n / 16)) e
 
--- a sum downwards, rounded
+-- a sixteenth of a sum downwards is rounded as the definition rounds it
 shifted_down : (d : ℕ) → 0 < d → int_shr (pos 8 +ℤ neg_ℤ (pos d) -ℤ pos 1) 4 ≡ neg_ℤ (pos ((d + 8) / 16))
 shifted_down d l = elim (cases_lt d 8) [
   | inl few ↦
@@ -179,15 +179,15 @@ shifted_down d l = elim (cases_lt d 8) [
       rw (e, b) refl
 ]
 
--- a sample moved up, clamped
+-- a sample that moves up is kept between the least and the greatest
 clamped_up : (x m a b : ℕ) → pos (min (max (x + m) a) b) ≡ int_min (int_max (pos x +ℤ pos m) (pos a)) (pos b)
 clamped_up x m a b = grind (arith, ints, nat_tests)
 
--- a sample moved down, clamped
+-- a sample that moves down is kept between the least and the greatest
 clamped_down : (x m a b : ℕ) → pos (min (max (x - m) a) b) ≡ int_min (int_max (pos x +ℤ neg_ℤ (pos m)) (pos a)) (pos b)
 clamped_down x m a b = grind (arith, ints, nat_tests)
 
--- the sample that a tally makes
+-- the sample that a tally makes is the filtered sample
 pub settled_is : (t : Tally) (x : ℕ) (sum least greatest : ℤ) → IsTally t sum least greatest
     → pos (settled t x) ≡ int_min (int_max (pos x +ℤ rounded_sum sum) least) greatest
 settled_is t x sum least greatest h = rw (← h.low, ← h.high) (elim (cases_lt t.up t.down) [

@@ -15,31 +15,31 @@ unfolding total_below
 sum_same f g zero h = refl
 sum_same f g (suc n) h = let a = sum_same f g n (λ i l. h i (omega arith)) in let b = h n (omega arith) in omega arith
 
--- the sum of sums
+-- the sum of two functions' sums is the sum of their sums
 sum_plus : (f g : ℕ → ℕ) (n : ℕ) → total_below n (λ i. f i + g i) ≡ total_below n f + total_below n g
 unfolding total_below
 sum_plus f g zero = refl
 sum_plus f g (suc n) = let a = sum_plus f g n in omega arith
 
--- a factor before a sum
+-- a factor of all terms is a factor of the sum
 sum_times : (c : ℕ) (f : ℕ → ℕ) (n : ℕ) → total_below n (λ i. c * f i) ≡ c * total_below n f
 unfolding total_below
 sum_times c f zero = omega arith
 sum_times c f (suc n) = let a = sum_times c f n in let b : c * (total_below n f + f n) ≡ c * total_below n f + c * f n = grind arith in omega arith
 
--- a sum of zeros
+-- a sum of zeros is 0
 sum_zero : (n : ℕ) → total_below n (λ i. 0) ≡ 0
 unfolding total_below
 sum_zero zero = refl
 sum_zero (suc n) = let a = sum_zero n in omega arith
 
--- sums in either order
+-- two sums may be taken in either order
 sum_swap : (f : ℕ → ℕ → ℕ) (n m : ℕ) → total_below n (λ i. total_below m (f i)) ≡ total_below m (λ j. total_below n (λ i. f i j))
 unfolding total_below
 sum_swap f zero m = sym (sum_zero m)
 sum_swap f (suc n) m = ap (λ s. s + total_below m (f n)) (sum_swap f n m) ∙ sym (sum_plus (λ j. total_below n (λ i. f i j)) (f n) m)
 
--- a place is on one line
+-- a value counted on one line only adds once
 sum_one : (l v n : ℕ) → total_below n (λ k. if l == k then v else 0) ≡ (if nat_lt l n then v else 0)
 unfolding total_below
 sum_one l v zero = let t : nat_lt l 0 ≡ false = grind (arith, nat_tests) in rw t refl
@@ -74,12 +74,12 @@ lines_all d f =
     small : (l : ℕ) → l < 15 → nat_lt l 15 ≡ true
     small l h = grind (arith, nat_tests)
 
--- a choice of a sum
+-- a choice of a sum is the sum of the choices
 if_plus : (t : Bool) (a c : ℕ) → (if t then a + c else 0) ≡ (if t then a else 0) + c * (if t then 1 else 0)
 if_plus true a c = omega arith
 if_plus false a c = omega arith
 
--- a line of raised samples
+-- raising all samples raises the sum along a line by its length
 along_plus : (d n c : ℕ) (f g : ℕ → ℕ → ℕ) → ((i j : ℕ) → i < 8 → j < 8 → g i j ≡ f i j + c) → along d n g ≡ along d n f + c * line_places d n
 along_plus d n c f g h =
     sum_same (λ i. total_below 8 (λ j. if line_of d i j == n then g i j else 0)) (λ i. total_below 8 (λ j. if line_of d i j == n then f i j else 0) + c * total_below 8 (λ j. if line_of d i j == n then 1 else 0)) 8
@@ -94,7 +94,7 @@ along_plus d n c f g h =
 raised : List ℕ → ℕ → List ℕ
 raised block c = map (λ (p : ℕ). p + c) block
 
--- a line of a raised block
+-- raising a block raises the sum of a line by the line's length
 line_raised : (block : List ℕ) (c d n : ℕ) → length block ≡ 64 → line_sum (map (λ p. p + c) block) d n ≡ line_sum block d n + c * line_places d n
 line_raised block c d n e = along_plus d n c (sample_in_block block) (sample_in_block (map (λ p. p + c) block)) (λ i j li lj. get_or-map (λ (p : ℕ). p + c) block (8 * i + j) 0 0 (omega arith))
 
@@ -143,7 +143,7 @@ full (suc (suc (suc (suc (suc (suc (suc zero))))))) l = inr refl
 full (suc (suc (suc (suc (suc (suc (suc (suc zero)))))))) l = inr refl
 full (suc (suc (suc (suc (suc (suc (suc (suc (suc n))))))))) l = absurd (omega arith)
 
--- the square of a raised line
+-- the share of a raised line's square grows by terms of its sum and its length
 square_plus : (share s c k : ℕ) → share * k ≡ 840 → share * ((s + c * k) * (s + c * k)) ≡ share * (s * s) + (1680 * c * s + 840 * (c * c) * k)
 square_plus share s c k e =
     let a : share * ((s + c * k) * (s + c * k)) ≡ share * (s * s) + (share * k) * (2 * c * s) + (share * k) * (c * c * k) = grind arith in
@@ -153,7 +153,7 @@ square_plus share s c k e =
     let i : 840 * (c * c * k) ≡ 840 * (c * c) * k = grind arith in
     omega arith
 
--- a line without places
+-- a line without places costs nothing
 empty_line : (share c s k : ℕ) → s ≡ 0 → k ≡ 0 → share * ((s + c * k) * (s + c * k)) ≡ share * (s * s) + (1680 * c * s + 840 * (c * c) * k)
 empty_line share c s k es ek =
     let z : c * 0 ≡ 0 = omega arith in
@@ -161,7 +161,7 @@ empty_line share c s k es ek =
     let x : 840 * (c * c) * 0 ≡ 0 = omega arith in
     rw (es, ek, z, y, x) (omega arith)
 
--- the cost of a raised line
+-- the cost of a raised line grows by the line's sum and length
 cost_of_line : (block : List ℕ) (c d n : ℕ) → length block ≡ 64 → All (λ p. p ≤ 255) block → d < 8 → n < 15
     → line_cost (map (λ p. p + c) block) d n ≡ line_cost block d n + (1680 * c * line_sum block d n + 840 * (c * c) * line_places d n)
 cost_of_line block c d n e h ld ln =
@@ -174,11 +174,11 @@ cost_of_line block c d n e h ld ln =
     zero_sum : (s k : ℕ) → s ≤ 255 * k → k ≡ 0 → s ≡ 0
     zero_sum s k l z = omega arith
 
--- the sum of a block
+-- the sum of the samples of a block
 whole : List ℕ → ℕ
 whole block = total_below 8 (λ i. total_below 8 (λ j. sample_in_block block i j))
 
--- by how much each direction costs more
+-- by how much the cost of each direction grows when a constant is added
 more_cost : List ℕ → ℕ → ℕ
 more_cost block c = 1680 * c * whole block + 840 * (c * c) * 64
 
@@ -195,7 +195,7 @@ cost_raised block c d e h ld =
     ∙ ap (λ s. s + total_below 15 (λ n. 840 * (c * c) * line_places d n)) (sum_times (1680 * c) (line_sum block d) 15 ∙ ap (λ s. 1680 * c * s) (lines_all d (sample_in_block block)))
     ∙ ap (λ s. 1680 * c * total_below 8 (λ i. total_below 8 (λ j. sample_in_block block i j)) + s) (sum_times (840 * (c * c)) (line_places d) 15 ∙ ap (λ s. 840 * (c * c) * s) (all_lengths d ld)))
 
--- what is less stays less
+-- adding the same number to both sides keeps a test for less
 lt_plus : (a b k : ℕ) → nat_lt (a + k) (b + k) ≡ nat_lt a b
 lt_plus a b k = grind (arith, nat_tests)
 

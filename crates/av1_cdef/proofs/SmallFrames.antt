@@ -27,7 +27,7 @@ in_depth bound xs i some h = elim (cases_lt i (length xs)) [
   | inr m ↦ let past = get_or_past xs i (pos 0) m in subst (InDepth bound) (sym past) (grind arith, grind arith)
 ]
 
--- a frame of bytes of 8 by 8 without chroma is made for such parameters
+-- a frame of bytes of 8 by 8 without chroma is made for parameters that say so
 pub input_made : (f : Frame ℕ) (p : Parameters) → p.width ≡ 8 → p.height ≡ 8 → p.sequence.chroma_sampling ≡ Cs400 → p.sequence.bit_depth ≡ 8
     → layouts (view_frame pos f) ≡ frame_layout 8 8 Cs400 → Below 256 (map pos f.planes.y.samples.items) → IsInputFor p (view_frame pos f)
 input_made f p ew eh es ed layout h = record {
@@ -45,7 +45,7 @@ small_room cfg b r e shown stored ec er = record {
   height = rw (shown, e, er) (omega arith);
 }
 
--- blocks of a table whose indices are low
+-- the blocks of a table whose indices are low are blocks of a view with low indices
 pub indices_made : (b : TileBlocks) (entries : List Block) (n : ℕ) → view_entries b ≡ drop n entries → All (λ (k : Block). k.cdef_index ≤ 7) entries → HasIndices b
 indices_made b entries n e h = record {
   each = λ x y lx ly.
@@ -59,11 +59,11 @@ indices_made b entries n e h = record {
       | inr m ↦ rw (get_or_past entries i default_block m) (omega arith)
     ]
 
--- one number more at the front
+-- a number of at most 63 may be put before a list of such numbers
 one_more : (x : ℕ) (xs : List ℕ) → x ≤ 63 → All (λ s. s ≤ 63) xs → All (λ s. s ≤ 63) (x ∷ xs)
 one_more x xs l h = All-cons (λ s. s ≤ 63) x xs l h
 
--- eight strengths, seven of them 0
+-- a list of one strength of at most 63 and seven of 0 is in range
 pub eight_low : (x : ℕ) → x ≤ 63 → All (λ s. s ≤ 63) (x ∷ 0 ∷ 0 ∷ 0 ∷ 0 ∷ 0 ∷ 0 ∷ 0 ∷ [])
 eight_low x l =
     one_more x (0 ∷ 0 ∷ 0 ∷ 0 ∷ 0 ∷ 0 ∷ 0 ∷ []) l

@@ -16,7 +16,7 @@ use Rattle.av1_cdef.specs.Analysis.{is_filtered, HasDirections}
 use Rattle.av1_cdef.specs.Superblock.{plan_with, view_cdef}
 use Rattle.av1_cdef.proofs.Analyses.{direction_some, variance_some}
 
--- the settings by a plan are those of the definition
+-- the settings that a plan gives are the settings of the definition
 settings_same : (d : Deblocked) (c : Channel) (index bx by : ℕ)
     → settings_by (plan_with d.header (c.pli == 0) (c.xdec == c.ydec) index) (direction (luma_block d bx by)) (direction_variance (luma_block d bx by))
     ≡ settings_of d c index bx by
@@ -80,7 +80,7 @@ part_cdef d c index left top u v i j dirs h lu ru lv rv cu cv = at (all_skipped 
         h.var (u - left) (v - top) (omega arith) (omega arith) ∙ (rw (eu, ev) (ap pos (sym (variance_some d u v t)))) in
         rw (e, s, dir, var) (ap (λ (z : Settings). filtered_at c.picture z x y i j) (settings_same d c index (d.x + u) (d.y + v)))
 
--- blocks with the same values
+-- blocks filtered with equal values are equally filtered
 pub blocks_same : (start step w h x0 x1 y0 bx by : ℕ) (value other : ℕ → ℕ → ℕ → ℕ → ℤ) (xs ys : List ℤ) → ((u v i j : ℕ) → IsBefore x0 x1 y0 bx by u v → i < h → j < w → value u v i j ≡ other u v i j)
     → HasFilteredBlocks start step w h x0 x1 y0 bx by value xs ys → HasFilteredBlocks start step w h x0 x1 y0 bx by other xs ys
 blocks_same start step w h x0 x1 y0 bx by value other xs ys e b = record {

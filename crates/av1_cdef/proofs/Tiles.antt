@@ -25,7 +25,7 @@ reached_none start step w h cols rows value xs = record {
   off = λ k f. refl;
 }
 
--- the blocks of one superblock more
+-- the blocks of one superblock more are reached
 pub reached_more : (start step w h cols rows sx sy : ℕ) (value : ℕ → ℕ → ℕ → ℕ → ℤ) (xs ys zs : List ℤ) → w * cols ≤ step
     → HasReached start step w h cols rows sx sy value xs ys
     → HasFilteredBlocks start step w h (8 * sx) (min (8 * sx + 8) cols) (8 * sy) (8 * sx) (min (8 * sy + 8) rows) value ys zs
@@ -105,7 +105,7 @@ part_index d sx sy u v ex ey lu ru lv rv =
     let b : 16 * ((d.y + v) / 8) - 2 * d.y ≡ 16 * sy = omega arith in
     ap (λ m. (entry_at d.blocks d.step m (16 * ((d.y + v) / 8) - 2 * d.y)).cdef_index) a ∙ ap (λ m. (entry_at d.blocks d.step (16 * sx) m).cdef_index) b
 
--- with that index a sample is that of the tile
+-- a sample by the index of its block's 64x64 part is the tile's sample
 tile_value : (d : Deblocked) (c : Channel) (index u v i j : ℕ) → index_of d (d.x + u) (d.y + v) ≡ index → view_cdef d c index u v i j ≡ tile_cdef d c u v i j
 unfolding tile_cdef
 tile_value d c index u v i j e = ap (λ n. view_cdef d c n u v i j) (sym e)
@@ -123,7 +123,7 @@ pub record HasBlocksRoom {X : Type 0} (d : Deblocked) (c : Channel) (r : PlaneRe
   pub stored : IsStored r
   pub width : cdef_block_width c * (d.cols / 2) ≤ (area r).width
 
--- a tile that is still the same part still has the room
+-- a tile keeps its room when its regions keep their places
 pub holds_still : {X : Type 0} (f : Frame X) (b : TileBlocks) (s t : TileMut X) → IsSamePart s.planes.y t.planes.y → IsSamePart s.planes.u t.planes.u → IsSamePart s.planes.v t.planes.v
     → HoldsView f b s → HoldsView f b t
 holds_still {X = X} f b s t y u v h = record {
@@ -135,7 +135,7 @@ holds_still {X = X} f b s t y u v h = record {
     room_still : (cfg : PlaneConfig) (r r' : PlaneRegionMut X) → IsSamePart r r' → HasViewRoom cfg b r → HasViewRoom cfg b r'
     room_still cfg r r' same room = record { stored = stored_still r r' room.stored same; width = rw same.rect room.width; height = rw same.rect room.height }
 
--- one superblock more
+-- one superblock more of a plane is filtered
 pub to_more : {X : Type 0} (number : X → ℤ) (d : Deblocked) (sx sy index : ℕ) (c : Channel) (r s t : PlaneRegionMut X) → d.x % 8 ≡ 0 → d.y % 8 ≡ 0
     → index ≡ (entry_at d.blocks d.step (16 * sx) (16 * sy)).cdef_index → (0 < c.picture.width → HasBlocksRoom d c r)
     → IsFilteredTo number d sx sy c r s → IsFilteredPlane number (superblock_part d index sx sy) c s t
@@ -166,7 +166,7 @@ to_row number d sx sy c a b l h = record { part = h.part; blocks = λ some. reac
 
 -- From blocks to samples.
 
--- the block and the place in it of a column
+-- a column of a side lies in one block, at one place of the block
 place_of : (w x n : ℕ) → 0 < w → x < w * n → (x / w < n) × ((x - w * (x / w) < w) × (w * (x / w) + (x - w * (x / w)) ≡ x))
 place_of w x n some l =
     let low : w * (x / w) ≤ x = mul-div-le x w in
@@ -179,14 +179,14 @@ place_of w x n some l =
       (omega arith, omega arith),
     )
 
--- a side with a sample in it is not 0
+-- a block's side is positive where the tile has a sample
 some_of : (w n x : ℕ) → x < w * n → 0 < w
 some_of w n x l = elim (cases_lt 0 w) [
   | inl h ↦ h
   | inr h ↦ let e : w ≡ 0 = omega arith in let z : w * n ≡ 0 = rw e (omega arith) in absurd (omega arith)
 ]
 
--- all blocks are all samples
+-- samples that are right block by block are right in the whole tile
 tile_of_blocks : (start step w h cols rows : ℕ) (value : ℕ → ℕ → ℕ → ℕ → ℤ) (other : ℕ → ℕ → ℤ) (xs ys : List ℤ)
     → ((x y : ℕ) → 0 < w → 0 < h → value (x / w) (y / h) (y - h * (y / h)) (x - w * (x / w)) ≡ other x y)
     → HasFilteredBlocks start step w h 0 cols 0 0 rows value xs ys → HasTile start step (w * cols) (h * rows) other xs ys
@@ -207,7 +207,7 @@ tile_of_blocks start step w h cols rows value other xs ys same b = record {
     below : (u v : ℕ) → IsBefore 0 cols 0 0 rows u v → v < rows
     below u v k = elim k.order [ inl a ↦ a | inr q ↦ absurd (omega arith) ]
 
--- the same block, counted from the frame's first one, and the same column
+-- a column counted from the frame's first block lies in the block and at the place counted there
 from_frame : (w t x : ℕ) → 0 < w → ((w * t + x) / w ≡ t + x / w) × (w * t + x ≡ w * (t + x / w) + (x - w * (x / w)))
 from_frame w t x some =
     let e : (w * t + x) / w ≡ t + x / w = mul-add-div some t x in

@@ -1,4 +1,4 @@
--- The samples of a filtered tile that is the whole frame are those of the frame's definition.
+-- The samples of a filtered tile that is the whole frame are the samples of the frame's definition.
 use Rattle.std.proofs.Common.{◌≡◌, ℕ, ℤ, pos, zero, suc, ◌+◌, ◌-◌, ◌*◌, ◌/◌, ◌%◌, ◌^◌, ◌<◌, ◌≤◌, List, [], ◌∷◌, length, get_or, map, refl, sym, ◌∙◌, ap, subst, arith, inl, inr, Bool, true, false}
 use Rattle.std.specs.Prelude.{if◌then◌else◌}
 use Rattle.std.proofs.Math.Nat.{mod-add-div'}
@@ -28,7 +28,7 @@ use Rattle.av1_cdef.specs.Whole.{whole_frame, in_picture, with_picture, cdef_pla
 
 -- Entries of a list of samples with a picture in it.
 
--- as many samples as before
+-- a list with a picture in it is as long as before
 length-with_picture : (cfg : PlaneConfig) (value : ℕ → ℕ → ℤ) (k : ℕ) (xs : List ℤ) → length (with_picture cfg value k xs) ≡ length xs
 unfolding with_picture
 length-with_picture cfg value k [] = refl
@@ -38,7 +38,7 @@ length-with_picture cfg value k (x ∷ xs) = ap suc (length-with_picture cfg val
 abbrev picked : PlaneConfig → (ℕ → ℕ → ℤ) → ℕ → ℤ → ℤ
 picked cfg value n old = if in_picture cfg n then value (n % cfg.stride - cfg.xorigin) (n / cfg.stride - cfg.yorigin) else old
 
--- the sample at a place
+-- an entry of a list with a picture in it is the picture's sample or the old one
 get_or-with_picture : (cfg : PlaneConfig) (value : ℕ → ℕ → ℤ) (k : ℕ) (xs : List ℤ) (i : ℕ) → i < length xs → get_or (with_picture cfg value k xs) i (pos 0) ≡ picked cfg value (k + i) (get_or xs i (pos 0))
 unfolding with_picture
 get_or-with_picture cfg value k [] i l = absurd (omega arith)
@@ -56,13 +56,13 @@ place_inside s yo xo n lx ly =
     let whole = mod-add-div' n s in
     omega arith
 
--- the column and the row of a place
+-- the column and the row of a place of the picture are found from the place
 place_column : (s yo xo x y : ℕ) → xo + x < s → ((yo * s + xo + y * s + x) % s ≡ xo + x) × ((yo * s + xo + y * s + x) / s ≡ yo + y)
 place_column s yo xo x y l =
     let e : yo * s + xo + y * s + x ≡ (yo + y) * s + (xo + x) = grind arith in
     (rw e (mod-mul-add (yo + y) s (xo + x) l), rw e (div-mul-add (yo + y) s (xo + x) l))
 
--- samples that are those of a picture inside the plane, and as they were elsewhere
+-- samples of the tile inside the plane and old ones elsewhere are the list with the picture
 pub with_picture_of_tile : (cfg : PlaneConfig) (value other : ℕ → ℕ → ℤ) (xs ys : List ℤ) → cfg.xorigin + cfg.width ≤ cfg.stride
     → HasTile (origin_place cfg) cfg.stride cfg.width cfg.height value xs ys → ((x y : ℕ) → value x y ≡ other x y)
     → ys ≡ with_picture cfg other 0 xs
@@ -96,7 +96,7 @@ pub same_frame : (params : Parameters) (luma : CdefPicture) (blocks : List Block
     → let d : Deblocked = record { header = header_of params; luma = luma; blocks = blocks; step = step; x = x; y = y; cols = cols; rows = rows } in d ≡ whole_frame params blocks luma
 same_frame params luma blocks step x y cols rows es ex ey ec er = rw (es, ex, ey, ec, er) refl
 
--- a plane of a filtered frame
+-- a plane of a tile that is the whole frame is the filtered plane
 pub whole_plane : {X : Type 0} (number : X → ℤ) (d : Deblocked) (pli : ℕ) (p : Plane X) (a b : PlaneRegionMut X) → d.x ≡ 0 → d.y ≡ 0
     → (0 < p.cfg.width → p.cfg.width ≡ 8 / 2 ^ p.cfg.xdec * (d.cols / 2)) → (0 < p.cfg.width → p.cfg.height ≡ 8 / 2 ^ p.cfg.ydec * (d.rows / 2))
     → LiesOn number p a → IsFilteredTilePlane number d (channel_of number pli p) a b

@@ -28,29 +28,29 @@ axis k n start size true false a b c d l = let p = a refl in let q = d refl in g
 axis k n start size false true a b c d l = let p = b refl in let q = c refl in grind (arith, nat_tests)
 axis k n start size false false a b c d l = let p = b refl in let q = d refl in grind (arith, nat_tests)
 
--- a number in depth as a cell
+-- a number in depth as a cell shows itself
 cell_is : (bound : ℕ) (v : ℤ) → bound ≤ 4096 → InDepth bound v → (seen (unsigned_abs v) ≡ Some v) × (unsigned_abs v < bound)
 cell_is bound (pos n) l d = let m : n < bound = grind (arith, ints) in let f : (n == 0x8000) ≡ false = ne_eqb n 0x8000 (λ e. omega arith) in (rw f refl, m)
 cell_is bound (negsuc n) l d = absurd (grind (arith, ints))
 
--- a test whose negation holds
+-- a test whose negation holds fails
 not_is_true : (t : Bool) → not t ≡ true → t ≡ false
 not_is_true true e = sym e
 not_is_true false e = refl
 
--- a test whose negation does not hold
+-- a test whose negation fails holds
 not_is_false : (t : Bool) → not t ≡ false → t ≡ true
 not_is_false true e = refl
 not_is_false false e = sym e
 
--- the place of a cell's sample
+-- a cell's sample stands at the place that the cell's row and column give
 place_is : (origin step x y r c : ℕ) → 2 ≤ y + r → 2 ≤ x + c → (origin + y * step + x) + r * step - 2 * step + c - 2 ≡ origin + (y + r - 2) * step + (x + c - 2)
 place_is origin step x y r c lr lc =
     let sum : (y + r) * step ≡ y * step + r * step = grind arith in
     let less : (y + r - 2) * step + 2 * step ≡ (y + r) * step = rows_after (y + r) step lr in
     omega arith
 
--- what a cell of the window is
+-- a cell of the window is the picture's sample at its place, or the mark of a missing one
 pub window_is : (bound n : ℕ) (p : CdefPicture) (x y w h : ℕ) (s : Sides) (r c cell : ℕ) → bound ≤ 4096 → IsHeld bound n p → IsBlockOf p x y w h s → r < h + 4 → c < w + 4
     → cell ≡ window_cells p.samples (p.origin + y * p.step + x) p.step w h s r c → (seen cell ≡ near p x y r c) × ((cell < bound) ⊎ (cell ≡ 0x8000))
 unfolding window_cells row_cells
@@ -100,7 +100,7 @@ block_seen bound n p x y w h s xs ys i j lb held b cells li lj = record {
         let w' = window_is bound n p x y w h s (i + r) (j + c) (get_or ys ((i + r) * 12 + (j + c)) 0) lb held b (omega arith) (omega arith) (cells.on (i + r) (j + c) (omega arith) (omega arith)) in
         rw at (w'.0 ∙ (rw (a, b') refl), w'.1)
 
--- the sample itself is near it
+-- the sample in the middle of its neighbours is the sample itself
 middle : (p : CdefPicture) (x y : ℕ) → x < p.width → y < p.height → near p x y 2 2 ≡ Some (sample_at p x y)
 middle p x y lx ly =
     let tx : (nat_le 2 (x + 2) && nat_lt (x + 2) (p.width + 2)) ≡ true = grind (arith, nat_tests) in
@@ -114,7 +114,7 @@ some_cell : (c : ℕ) (v : ℤ) → seen c ≡ Some v → CellOk c → (c < 4096
 some_cell c v e (inl l) = let f : (c == 0x8000) ≡ false = ne_eqb c 0x8000 (λ e. omega arith) in let is : Some (pos c) ≡ Some v = sym (rw f refl) ∙ e in (l, cc)
 some_cell c v e (inr l) = let is : None ≡ Some v = sym (rw l refl) ∙ e in absurd cc
 
--- the cell of a sample
+-- the cell of a block's sample is the sample
 pub block_sample : (bound n : ℕ) (p : CdefPicture) (x y w h : ℕ) (s : Sides) (xs ys : List ℕ) (i j : ℕ) → bound ≤ 4096 → IsHeld bound n p → IsBlockOf p x y w h s → x + w ≤ p.width → y + h ≤ p.height
     → HasPaddedCells 12 w (h + 4) (window_cells p.samples (p.origin + y * p.step + x) p.step w h s) xs ys → i < h → j < w → (get_or ys (12 * i + j + 26) 0 < 4096) × (pos (get_or ys (12 * i + j + 26) 0) ≡ sample_at p (x + j) (y + i))
 block_sample bound n p x y w h s xs ys i j lb held b lx ly cells li lj =
@@ -136,11 +136,11 @@ block_filtered bound n p x y w h s xs ys st t i j lb held b lx ly range taps cel
     let mid = block_sample bound n p x y w h s xs ys i j lb held b lx ly cells li lj in
     filtered_is ys (12 * i + j) st t (near p (x + j) (y + i)) are mid.0 range taps ∙ ap (filtered_near (near p (x + j) (y + i)) st) mid.1
 
--- cells before padding
+-- the cells before padding
 abbrev blank : List ℕ
 blank = replicate 144 0x8000
 
--- the cells are in range
+-- the cells of a padded block are in range
 pub block_cells : (bound n : ℕ) (p : CdefPicture) (x y w h : ℕ) (s : Sides) (xs ys : List ℕ) → bound ≤ 4096 → w ≤ 8 → IsHeld bound n p → IsBlockOf p x y w h s → xs ≡ blank
     → HasPaddedCells 12 w (h + 4) (window_cells p.samples (p.origin + y * p.step + x) p.step w h s) xs ys → AreCells bound ys
 block_cells bound n p x y w h s xs ys lb lw held b e cells = record { each = λ k d l. subst (λ c. (c < bound) ⊎ (c ≡ 0x8000)) (get_or_default ys k 0 d l) (at k l) }
@@ -175,7 +175,7 @@ after_fits n origin step x y w h width height b r lx ly inside =
     let split : (y + h + b) * step ≡ y * step + (h + b) * step = grind arith in
     omega arith
 
--- two samples more where the plane goes on
+-- two samples more fit where the plane goes on
 more : (s : Bool) (a b : ℕ) → (s ≡ true → a + 2 ≤ b) → a ≤ b → a + (if s then 2 else 0) ≤ b
 more true a b h l = h refl
 more false a b h l = omega arith
@@ -187,10 +187,10 @@ window_held bound n p x y w h s held b lx ly = record {
   after = after_fits n p.origin p.step x y w h p.width p.height (if s.bottom then 2 else 0) (if s.right then 2 else 0) (more s.right (x + w) p.width b.right lx) (more s.bottom (y + h) p.height b.bottom ly) held.inside;
 }
 
--- a greater bound
+-- cells below a bound are below every greater bound
 pub cells_wider : (a b : ℕ) (cells : List ℕ) → a ≤ b → AreCells a cells → AreCells b cells
 cells_wider a b cells l h = record { each = λ k d lk. elim (h.each k d lk) [ inl m ↦ inl (omega arith) | inr e ↦ inr e ] }
 
--- blocks with the same values
+-- a block with equal values is equally filtered
 pub block_same : (start step x y w h : ℕ) (f g : ℕ → ℕ → ℤ) (xs ys : List ℤ) → ((i j : ℕ) → i < h → j < w → f i j ≡ g i j) → HasBlock start step x y w h f xs ys → HasBlock start step x y w h g xs ys
 block_same start step x y w h f g xs ys e b = record { long = b.long; on = λ i j li lj. b.on i j li lj ∙ e i j li lj; off = b.off }

@@ -13,9 +13,9 @@ use Rattle.av1_cdef.specs.Picture.{CdefPicture, sample_at}
 use Rattle.av1_cdef.specs.Frame.{Header, Deblocked, luma_block}
 use Rattle.av1_cdef.specs.Part.{AreDirections, table_direction, table_variance, all_skipped}
 
--- What a frame and a view of its blocks stand for.
+-- A frame and a view of its blocks, as plain data.
 
--- the samples inside a plane, its margin left out
+-- the samples inside a plane, its margin left out, as CDEF takes them
 abbrev pub plane_picture : {X : Type 0} → (X → ℤ) → Plane X → CdefPicture
 plane_picture number p = record {
   samples = map number p.samples.items;
@@ -52,7 +52,7 @@ abbrev pub deblocked_of : {X : Type 0} → (X → ℤ) → Parameters → Frame 
 deblocked_of number params f b =
     deblocked_by params (plane_picture number f.planes.y) b (view_x b / 2) (view_y b / 2)
 
--- What the analysis asks.
+-- What the analysis asks of its arguments.
 
 -- the samples of a picture are below a bound
 pub record IsDeep (bound : ℕ) (p : CdefPicture) : Type 0 where
@@ -74,22 +74,22 @@ pub record CanAnalyze {X : Type 0} (number : X → ℤ) (depth : ℕ) (p : Plane
   pub few_cols : view_cols b < 2 ^ 32
   pub few_rows : view_rows b < 2 ^ 32
 
--- What it finds.
+-- What the analysis finds.
 
--- block (u, v) of a view lies in it and is not skipped
+-- whether block (u, v) of a view lies in the view and is not skipped
 abbrev pub is_filtered : Deblocked → ℕ → ℕ → Bool
 is_filtered d u v =
     nat_lt (2 * u + 1) d.cols && (nat_lt (2 * v + 1) d.rows && not (all_skipped d.blocks d.step u v))
 
--- its direction; else 0
+-- the direction of block (u, v) of a view if the block is filtered, else 0
 unfoldable pub block_direction : Deblocked → ℕ → ℕ → ℕ
 block_direction d u v = if is_filtered d u v then direction (luma_block d (d.x + u) (d.y + v)) else 0
 
--- its variance; else 0
+-- the variance of block (u, v) of a view if the block is filtered, else 0
 unfoldable pub block_variance : Deblocked → ℕ → ℕ → ℕ
 block_variance d u v = if is_filtered d u v then direction_variance (luma_block d (d.x + u) (d.y + v)) else 0
 
--- the blocks of a part that are done: the columns before i, and the first j blocks of column i
+-- a table has the directions of the columns before i of a part, and of the first j blocks of column i
 pub record HasDirectionColumns (d : Deblocked) (left top i j : ℕ) (t : CdefDirections) : Type 0 where
   pub shape : AreDirections t
   pub before_dir : (a b : ℕ) → a < i → b < 8 → table_direction t a b ≡ block_direction d (left + a) (top + b)
@@ -107,7 +107,7 @@ pub record HasDirections (d : Deblocked) (left top : ℕ) (t : CdefDirections) :
 abbrev pub no_directions : CdefDirections
 no_directions = record { dir = replicate 8 (replicate 8 0); var = replicate 8 (replicate 8 (pos 0)) }
 
--- the directions of the superblocks of the first n places, row by row, of which a row has w
+-- a list has the directions of the first n superblocks, row by row with w to a row
 pub record HasRange (d : Deblocked) (w n : ℕ) (ts : List CdefDirections) : Type 0 where
   pub long : length ts ≡ n
   pub each : (x y : ℕ) → x < w → y * w + x < n → HasDirections d (8 * x) (8 * y) (slice_index_or ts (y * w + x) no_directions)

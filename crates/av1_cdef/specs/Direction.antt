@@ -11,7 +11,7 @@ abbrev pub block_of_picture : List ℤ → ℕ → ℕ → ℕ → List ℕ
 block_of_picture xs start step shift =
     tabulated 64 (λ k. unsigned_abs (slice_index_or xs (start + k / 8 * step + k % 8) (pos 0)) / 2 ^ shift)
 
--- the block's samples in the plane are below a bound
+-- the samples of the 8x8 block that starts at a place of a plane are below a bound
 pub record IsDeepBlock (bound : ℕ) (xs : List ℤ) (start step : ℕ) : Type 0 where
   pub each : (i j : ℕ) → i < 8 → j < 8 → InDepth bound (slice_index_or xs (start + i * step + j) (pos 0))
 
@@ -44,11 +44,11 @@ line_sum block d n = along d n (sample_in_block block)
 abbrev pub line_places : ℕ → ℕ → ℕ
 line_places d n = along d n (λ i j. 1)
 
--- 840 times the squared sum of a line, over its length; 840 is a multiple of each length
+-- 840 times the squared sum of a line over its length; 840 is a multiple of each length
 abbrev pub line_cost : List ℕ → ℕ → ℕ → ℕ
 line_cost block d n = 840 / line_places d n * (line_sum block d n * line_sum block d n)
 
--- no direction has more than 15 lines
+-- the cost of a direction: the costs of its lines, of which there are at most 15, added
 unfoldable pub cost : List ℕ → ℕ → ℕ
 cost block d = total_below 15 (line_cost block d)
 
@@ -56,6 +56,6 @@ cost block d = total_below 15 (line_cost block d)
 abbrev pub direction : List ℕ → ℕ
 direction block = first_greatest 7 (cost block)
 
--- by how much the best direction beats the one across it
+-- by how much the cost of the best direction is greater than that of the direction across
 abbrev pub direction_variance : List ℕ → ℕ
 direction_variance block = (cost block (direction block) - cost block ((direction block + 4) % 8)) / 2 ^ 10

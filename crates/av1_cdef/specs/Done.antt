@@ -1,4 +1,4 @@
--- Blocks of a region that have become those of a definition, one after another.
+-- Blocks of a region that have become a definition's blocks, one after another.
 use Rattle.std.specs.Prelude.{ℕ, ℤ, pos, ◌≡◌, ◌≢◌, ◌<◌, ◌≤◌, ◌+◌, ◌*◌, ◌⊎◌, List, length}
 use Rattle.std.specs.List.{slice_index_or}
 use Rattle.av1_plane.specs.Region.{spot}
@@ -10,7 +10,7 @@ pub record IsBefore (x0 x1 y0 bx by u v : ℕ) : Type 0 where
   pub top : y0 ≤ v
   pub order : (v < by) ⊎ ((v ≡ by) × (u < bx))
 
--- ys is xs with `value u v i j` at row i, column j of each such block; blocks have w by h samples
+-- ys is xs with `value u v i j` at row i, column j of each block before (bx, by), of w by h samples
 pub record HasFilteredBlocks (start step w h x0 x1 y0 bx by : ℕ) (value : ℕ → ℕ → ℕ → ℕ → ℤ) (xs ys : List ℤ) : Type 0 where
   pub long : length ys ≡ length xs
   pub on : (u v i j : ℕ) → IsBefore x0 x1 y0 bx by u v → i < h → j < w

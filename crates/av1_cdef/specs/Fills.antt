@@ -7,7 +7,7 @@ use Rattle.av1_cdef.specs.Direction.{sample_in_block}
 unfoldable pub row_cell : List ℕ → ℕ → ℕ → ℕ
 row_cell block i j = sample_in_block block i j
 
--- two neighbours
+-- two neighbouring cells of row i, added
 unfoldable pub pair_cell : List ℕ → ℕ → ℕ → ℕ
 pair_cell block i j = sample_in_block block i (2 * j) + sample_in_block block i (2 * j + 1)
 

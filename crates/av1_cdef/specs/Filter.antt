@@ -24,7 +24,7 @@ abbrev pub sum_of_taps : ℕ → ℤ → ℤ → List Tap → ℤ
 sum_of_taps damping x sum [] = sum
 sum_of_taps damping x sum (t ∷ ts) = sum_of_taps damping x (sum +ℤ tap_pull damping x t) ts
 
--- the least of it and a tap's sample
+-- the lesser of a number and a tap's sample, if the plane has it
 abbrev pub least_with : ℤ → Option ℤ → ℤ
 least_with least (Some v) = int_min least v
 least_with least None = least
@@ -34,7 +34,7 @@ abbrev pub least_of_taps : ℤ → List Tap → ℤ
 least_of_taps least [] = least
 least_of_taps least (t ∷ ts) = least_of_taps (least_with least t.sample) ts
 
--- the greatest of it and a tap's sample
+-- the greater of a number and a tap's sample, if the plane has it
 abbrev pub greatest_with : ℤ → Option ℤ → ℤ
 greatest_with greatest (Some v) = int_max greatest v
 greatest_with greatest None = greatest
@@ -48,7 +48,7 @@ greatest_of_taps greatest (t ∷ ts) = greatest_of_taps (greatest_with greatest 
 abbrev pub rounded_sum : ℤ → ℤ
 rounded_sum sum = int_shr (pos 8 +ℤ sum -ℤ (if is_negative sum then pos 1 else pos 0)) 4
 
--- the sample x between these taps
+-- the filtered value of a sample x with these taps
 abbrev pub filtered_sample : ℕ → ℤ → List Tap → ℤ
 filtered_sample damping x taps =
     int_min (int_max (x +ℤ rounded_sum (sum_of_taps damping x (pos 0) taps)) (least_of_taps x taps)) (greatest_of_taps x taps)
@@ -66,7 +66,7 @@ tap_row d k =
     else if d == 3 then (if k == 0 then 2 else 3)
     else if k == 0 then 3 else 4
 
--- its column
+-- the column of the tap at distance k + 1 along direction d
 abbrev pub tap_column : ℕ → ℕ → ℕ
 tap_column d k =
     if d == 5 then (if k == 0 then 2 else 3)
@@ -74,7 +74,7 @@ tap_column d k =
     else if d == 7 then (if k == 0 then 2 else 1)
     else if k == 0 then 3 else 4
 
--- strengths and dampings that occur
+-- strengths and dampings that CDEF can have
 pub record InRange (s : Settings) : Type 0 where
   pub direction : s.direction < 8
   pub primary : s.primary ≤ 240
@@ -105,10 +105,10 @@ taps_at near s k rest =
     (pair near ((s.direction + 2) % 8) k (secondary_weight k) s.secondary
     (pair near ((s.direction + 6) % 8) k (secondary_weight k) s.secondary rest))
 
--- all twelve taps
+-- all twelve taps of a sample
 abbrev pub taps_of : (ℕ → ℕ → Option ℤ) → Settings → List Tap
 taps_of near s = taps_at near s 0 (taps_at near s 1 [])
 
--- the sample x with these settings, among the samples near it
+-- the filtered value of a sample x with these settings, among the samples near it
 abbrev pub filtered_near : (ℕ → ℕ → Option ℤ) → Settings → ℤ → ℤ
 filtered_near near s x = filtered_sample s.damping x (taps_of near s)

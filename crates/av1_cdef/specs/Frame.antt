@@ -40,7 +40,7 @@ pub record Channel : Type 0 where
 abbrev pub cdef_block_width : Channel → ℕ
 cdef_block_width c = 8 / 2 ^ c.xdec
 
--- how many rows it has
+-- how many rows a block has in a plane
 abbrev pub cdef_block_height : Channel → ℕ
 cdef_block_height c = 8 / 2 ^ c.ydec
 
@@ -50,7 +50,7 @@ cdef_block_height c = 8 / 2 ^ c.ydec
 abbrev pub frame_unit : Deblocked → ℕ → ℕ → Block
 frame_unit d x y = entry_at d.blocks d.step (x - 2 * d.x) (y - 2 * d.y)
 
--- block (bx, by) of the frame is skipped where all four units are
+-- whether all four units of block (bx, by) of the frame are skipped
 abbrev pub is_skipped : Deblocked → ℕ → ℕ → Bool
 is_skipped d bx by =
     (frame_unit d (2 * bx) (2 * by)).skip
@@ -64,7 +64,7 @@ index_of d bx by = (frame_unit d (16 * (bx / 8)) (16 * (by / 8))).cdef_index
 
 -- Settings of a block (section 7.15.1).
 
--- by how many bits the samples have more than 8
+-- by how many bits the samples are longer than 8
 abbrev pub coeff_shift : Header → ℕ
 coeff_shift f = f.bit_depth - 8
 
@@ -76,13 +76,13 @@ shifted_block p shift bx by = block_of_picture p.samples (p.origin + 8 * by * p.
 abbrev pub luma_block : Deblocked → ℕ → ℕ → List ℕ
 luma_block d bx by = shifted_block d.luma (coeff_shift d.header) bx by
 
--- the direction of a chroma block where only its columns are halved (Cdef_Uv_Dir at 4:2:2)
+-- the direction in chroma where only its columns are halved (Cdef_Uv_Dir at 4:2:2)
 abbrev pub stretched : ℕ → ℕ
 stretched dir =
     if dir == 0 then 7 else if dir == 1 then 0 else if dir == 2 then 2 else if dir == 3 then 4
     else if dir == 4 then 5 else 6
 
--- a luma block: the primary strength is adjusted to the variance
+-- the settings of a luma block, whose primary strength is adjusted to its variance
 abbrev pub luma_settings : Deblocked → ℕ → ℕ → ℕ → Settings
 luma_settings d index bx by =
     let byte = slice_index d.header.luma_strengths index in
@@ -95,7 +95,7 @@ luma_settings d index bx by =
       scale = scale;
     }
 
--- a chroma block: the direction is that of luma, and 0 where the primary strength is
+-- the settings of a chroma block: the direction of luma, or 0 where the primary strength is 0
 abbrev pub chroma_settings : Deblocked → Channel → ℕ → ℕ → ℕ → Settings
 chroma_settings d c index bx by =
     let byte = slice_index d.header.chroma_strengths index in
@@ -109,20 +109,20 @@ chroma_settings d c index bx by =
       scale = scale;
     }
 
--- block (bx, by) of a plane, with the strengths of an index
+-- the settings of block (bx, by) of a plane with the strengths of an index
 abbrev pub settings_of : Deblocked → Channel → ℕ → ℕ → ℕ → Settings
 settings_of d c index bx by =
     if c.pli == 0 then luma_settings d index bx by else chroma_settings d c index bx by
 
 -- The filtered samples (section 7.15.2).
 
--- sample (x, y) of a plane, which lies in block (bx, by), with the strengths of an index
+-- sample (x, y) of a plane, filtered in block (bx, by) with the strengths of an index
 unfoldable pub block_cdef : Deblocked → Channel → (index bx by x y : ℕ) → ℤ
 block_cdef d c index bx by x y =
     if is_skipped d bx by then sample_at c.picture x y
     else filtered_near (near c.picture x y) (settings_of d c index bx by) (sample_at c.picture x y)
 
--- the sample at column x of row y of a plane
+-- the sample at column x of row y of a plane, after CDEF
 unfoldable pub cdef : Deblocked → Channel → ℕ → ℕ → ℤ
 cdef d c x y =
     let bx = x / cdef_block_width c in

@@ -12,7 +12,7 @@ use Rattle.av1_cdef.specs.Strength.{adjusted_strength}
 use Rattle.av1_cdef.specs.Picture.{CdefPicture, sample_at, filtered_at}
 use Rattle.av1_cdef.specs.Frame.{stretched}
 
--- the settings of a block of that direction and variance
+-- the settings of a block with this direction and variance
 abbrev pub settings_by : Plan → ℕ → ℕ → Settings
 settings_by p dir var = record {
   direction = if p.primary == 0 then 0 else if p.stretched then stretched dir else dir;
@@ -22,7 +22,7 @@ settings_by p dir var = record {
   scale = p.scale;
 }
 
--- skipped where all four units are
+-- whether all four units of a block are skipped
 abbrev pub all_skipped : List Block → ℕ → ℕ → ℕ → Bool
 all_skipped blocks step bx by =
     (entry_at blocks step (2 * bx) (2 * by)).skip
@@ -42,7 +42,7 @@ block_sample p skip s x y i j = if skip then copied_at p x y i j else filtered_a
 abbrev pub sides_at : ℕ → ℕ → ℕ → ℕ → Sides
 sides_at bx by cols rows = record { left = nat_lt 0 bx; right = nat_lt (bx + 1) cols; top = nat_lt 0 by; bottom = nat_lt (by + 1) rows }
 
--- strengths and dampings that occur
+-- the strengths and dampings of a plan are such as CDEF can have
 pub record IsCdefPlan (p : Plan) : Type 0 where
   pub primary : p.primary ≤ 15
   pub secondary : p.secondary ≤ 4
@@ -65,7 +65,7 @@ part_sample p blocks step plan dirs tx ty w h left top u v i j =
     (settings_by plan (table_direction dirs (u - left) (v - top)) (unsigned_abs (table_variance dirs (u - left) (v - top))))
     (w * (tx + u)) (h * (ty + v)) i j
 
--- the directions are directions
+-- the entries of a table are directions, from 0 to 7
 pub record AreDirections (d : CdefDirections) : Type 0 where
   pub columns : length d.dir ≡ 8
   pub rows : (u : ℕ) → u < 8 → length (slice_index_or d.dir u []) ≡ 8

@@ -15,7 +15,7 @@ pub record CdefPicture : Type 0 where
   pub width : ℕ
   pub height : ℕ
 
--- what a source shows
+-- the samples that a source shows
 abbrev pub cdef_picture_of : {X : Type 0} → (X → ℤ) → Source X → CdefPicture
 cdef_picture_of number s = record { samples = map number s.samples.now; origin = s.origin; step = s.step; width = s.width; height = s.height }
 

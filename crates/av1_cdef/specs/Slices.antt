@@ -9,11 +9,11 @@ use Rattle.av1_cdef.specs.Direction.{block_of_picture}
 abbrev pub slice_step : {X : Type 0} → PlaneSlice X → ℕ
 slice_step s = s.plane.now.cfg.stride
 
--- the plane's list, as numbers
+-- the samples of the plane under a slice, as numbers
 abbrev pub slice_numbers : {X : Type 0} → (X → ℤ) → PlaneSlice X → List ℤ
 slice_numbers number s = map number s.plane.now.samples.items
 
--- the 8x8 block at which it begins, shifted right
+-- the 8x8 block at which a slice begins, its samples shifted right
 abbrev pub slice_block : {X : Type 0} → (X → ℤ) → PlaneSlice X → ℕ → List ℕ
 slice_block number s shift = block_of_picture (slice_numbers number s) (slice_start s) (slice_step s) shift
 

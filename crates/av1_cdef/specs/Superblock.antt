@@ -15,7 +15,7 @@ use Rattle.av1_block.specs.Tables.{TileBlocks}
 
 -- What the calls ask.
 
--- strengths and dampings that occur
+-- the strengths and the damping of a header are such as CDEF can have
 pub record IsCdefHeader (f : Header) : Type 0 where
   pub low : 8 ≤ f.bit_depth
   pub high : f.bit_depth ≤ 12
@@ -44,11 +44,11 @@ pub record CanFilter {X : Type 0} (number : X → ℤ) (scale cols rows view_col
 
 -- The strengths of an index.
 
--- the strength byte
+-- the strength byte of an index, for luma or for chroma
 abbrev pub strength_byte : Header → Bool → ℕ → ℕ
 strength_byte f luma index = if luma then slice_index f.luma_strengths index else slice_index f.chroma_strengths index
 
--- what it says of luma or of chroma, whose decimations are the same or not
+-- what the strength byte of an index says of luma or of chroma, both decimations being equal or not
 abbrev pub plan_with : Header → Bool → Bool → ℕ → Plan
 plan_with f luma same index = record {
   luma = luma;
@@ -90,7 +90,7 @@ unfoldable pub view_cdef : Deblocked → Channel → (index u v i j : ℕ) → �
 view_cdef d c index u v i j =
     block_cdef d c index (d.x + u) (d.y + v) (cdef_block_width c * (d.x + u) + j) (cdef_block_height c * (d.y + v) + i)
 
--- b is a with those blocks of a plane filtered and all else as it was; a plane without samples stays
+-- b is a with the blocks of a part of a view filtered; a plane without samples stays
 pub record IsFilteredPlane {X : Type 0} (number : X → ℤ) (p : ViewPart) (c : Channel) (a b : PlaneRegionMut X) : Type 0 where
   pub part : IsSamePart a b
   pub blocks : 0 < c.picture.width
@@ -98,7 +98,7 @@ pub record IsFilteredPlane {X : Type 0} (number : X → ℤ) (p : ViewPart) (c :
       (view_cdef p.frame c p.index) (numbers_under number a) (numbers_under number b)
   pub none : c.picture.width ≡ 0 → numbers_under number b ≡ numbers_under number a
 
--- the same in each plane
+-- b is a with the blocks of a part of a view filtered in each plane
 pub record IsFiltered {X : Type 0} (number : X → ℤ) (p : ViewPart) (f : Frame X) (a b : TileMut X) : Type 0 where
   pub y : IsFilteredPlane number p (channel_of number 0 f.planes.y) a.planes.y b.planes.y
   pub u : IsFilteredPlane number p (channel_of number 1 f.planes.u) a.planes.u b.planes.u

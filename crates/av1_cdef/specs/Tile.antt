@@ -8,7 +8,7 @@ use Rattle.av1_plane.specs.Region.{spot, numbers_under, first_place, row_step, I
 use Rattle.av1_cdef.specs.Frame.{Deblocked, Channel, cdef_block_width, cdef_block_height, index_of, cdef}
 use Rattle.av1_cdef.specs.Superblock.{view_cdef, channel_of}
 
--- The promise, by samples.
+-- The filtered tile, sample by sample.
 
 -- the sample at column x of row y of a view's region of a plane
 unfoldable pub sample_cdef : Deblocked → Channel → ℕ → ℕ → ℤ
@@ -28,25 +28,25 @@ pub record IsFilteredTilePlane {X : Type 0} (number : X → ℤ) (d : Deblocked)
       (sample_cdef d c) (numbers_under number a) (numbers_under number b)
   pub none : c.picture.width ≡ 0 → numbers_under number b ≡ numbers_under number a
 
--- the same in each plane
+-- b is a with all blocks of a view filtered in each plane
 pub record IsFilteredTile {X : Type 0} (number : X → ℤ) (d : Deblocked) (f : Frame X) (a b : TileMut X) : Type 0 where
   pub y : IsFilteredTilePlane number d (channel_of number 0 f.planes.y) a.planes.y b.planes.y
   pub u : IsFilteredTilePlane number d (channel_of number 1 f.planes.u) a.planes.u b.planes.u
   pub v : IsFilteredTilePlane number d (channel_of number 2 f.planes.v) a.planes.v b.planes.v
 
--- The way there, superblock by superblock.
+-- The filtered tile, superblock by superblock.
 
 -- the sample at row i, column j of block (u, v) of a view, with the index that its 64x64 part has
 unfoldable pub tile_cdef : Deblocked → Channel → (u v i j : ℕ) → ℤ
 tile_cdef d c u v i j = view_cdef d c (index_of d (d.x + u) (d.y + v)) u v i j
 
--- block (u, v) of cols by rows, in a superblock before superblock (sx, sy)
+-- block (u, v) of cols by rows blocks lies in a superblock before superblock (sx, sy)
 pub record IsReached (cols rows sx sy u v : ℕ) : Type 0 where
   pub column : u < cols
   pub row : v < rows
   pub order : (v < 8 * sy) ⊎ ((v < 8 * sy + 8) × (u < 8 * sx))
 
--- ys is xs with `value u v i j` at row i, column j of each such block
+-- ys is xs with `value u v i j` at row i, column j of each block before superblock (sx, sy)
 pub record HasReached (start step w h cols rows sx sy : ℕ) (value : ℕ → ℕ → ℕ → ℕ → ℤ) (xs ys : List ℤ) : Type 0 where
   pub long : length ys ≡ length xs
   pub on : (u v i j : ℕ) → IsReached cols rows sx sy u v → i < h → j < w
@@ -54,7 +54,7 @@ pub record HasReached (start step w h cols rows sx sy : ℕ) (value : ℕ → �
   pub off : (k : ℕ) → ((u v i j : ℕ) → IsReached cols rows sx sy u v → i < h → j < w → k ≢ spot start step (w * u + j) (h * v + i))
       → slice_index_or ys k (pos 0) ≡ slice_index_or xs k (pos 0)
 
--- b is a with those blocks of a view filtered; a plane without samples stays
+-- b is a with all blocks of a view before superblock (sx, sy) filtered
 pub record IsFilteredTo {X : Type 0} (number : X → ℤ) (d : Deblocked) (sx sy : ℕ) (c : Channel) (a b : PlaneRegionMut X) : Type 0 where
   pub part : IsSamePart a b
   pub blocks : 0 < c.picture.width

@@ -52,8 +52,8 @@ fn filters(blocks: &TileBlocks<'_>, u: usize, v: usize) -> bool
     2 * u + 1 < blocks.cols() && (2 * v + 1 < blocks.rows() && !is_skipped(blocks, u, v))
 }
 
-// The direction and variance of block (u, v) of a view that starts at block (tx, ty), 0 and 0 where
-// it is not filtered.
+// The direction and variance of block (u, v) of a view that starts at block (tx, ty), both 0 if
+// the block is not filtered.
 fn find_filtered<T: Pixel>(
     fi: &FrameInvariants<T>,
     source: &Source<'_, T>,

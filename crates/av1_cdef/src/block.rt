@@ -31,7 +31,7 @@ fn filter_cells(cells: &[u16], at: usize, taps: &Taps, row: &mut [u16])
     }
 }
 
-// By way of `row`, whose length is the block's width.
+// `filter_block` with the caller's `row`, which is as long as the block is wide.
 #[inline(always)]
 #[tactic(auto, using(crate::proofs::Blocks::blocks))]
 fn filter_block_by<T: Pixel, const H: usize>(
@@ -90,7 +90,7 @@ pub fn filter_block<T: Pixel, const W: usize, const H: usize>(
     filter_block_by::<T, H>(cells, taps, p, x, y, &mut row);
 }
 
-// By way of `cells`.
+// `filter_from` with the caller's `cells`.
 #[inline(always)]
 fn filter_in_cells<T: Pixel, const W: usize, const H: usize>(
     source: &Source<'_, T>,

@@ -241,7 +241,7 @@ fn sum_lines<const D: usize>(block: &[u16], rows: &[u16], pairs: &[u16], sums: &
     }
 }
 
-// A direction's cost, by way of the sums of its lines.
+// A direction's cost, by the sums of the direction's lines.
 #[inline(always)]
 #[tactic(auto, using(crate::proofs::Lines::costs))]
 fn cost_by<const D: usize>(block: &[u16], rows: &[u16], pairs: &[u16], sums: &mut [u16]) -> u32
@@ -291,7 +291,7 @@ fn first_greatest_of(costs: &[u32]) -> usize
     best
 }
 
-// By how much the best cost beats the one of the direction across it.
+// By how much the best cost is greater than the cost of the direction across.
 #[inline(always)]
 fn margin_of(costs: &[u32], best: usize) -> u32
     requires costs { length costs.now ≡ 8 }
@@ -303,7 +303,7 @@ fn margin_of(costs: &[u32], best: usize) -> u32
     costs[best].saturating_sub(costs[(best + 4) % 8]) >> 10
 }
 
-// By way of the padded rows.
+// The direction and variance of a block, by the padded rows of its samples.
 #[inline(always)]
 fn direction_by(block: &[u16], rows: &mut [u16], pairs: &mut [u16]) -> (usize, u32)
     requires block { length block.now ≡ 64 }
@@ -364,7 +364,7 @@ fn read_block<T: Pixel>(samples: &[T], place: usize, step: usize, shift: usize, 
     }
 }
 
-// By way of `block`.
+// `direction_at` with the caller's `block`.
 #[inline(always)]
 fn direction_in<T: Pixel>(
     samples: &[T],

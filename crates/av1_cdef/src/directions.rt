@@ -29,7 +29,7 @@ impl CdefDirections {
         column[by]
     }
 
-    // All directions and variances 0.
+    // A table whose directions and variances are all 0.
     pub(crate) fn none() -> CdefDirections
         ensures { AreDirections result }
     {

@@ -85,8 +85,8 @@ fn pad_ends<T: Pixel>(
     pad_side(dst, at + 2 + w, samples, place + w, right);
 }
 
-// A row of `w` samples, the first of which has that place, with two cells more on each side. Where the
-// plane goes on both ways it is one run.
+// A row of `w` samples from `place` on, with two cells more on each side. Where the
+// plane goes on both ways the row is one run.
 #[inline(always)]
 fn pad_row<T: Pixel>(
     dst: &mut [u16],

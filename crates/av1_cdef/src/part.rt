@@ -18,7 +18,7 @@ use crate::strength::adjusted;
 use av1_block::TileBlocks;
 use av1_plane::{BlockOffset, Pixel, PlaneRegionMut, TileBlockOffset};
 
-/// What a strength byte of the frame says of one plane. Strengths are those at 8 bits.
+/// What a strength byte of the frame says of one plane, with strengths at 8 bits.
 #[derive(Clone, Copy)]
 pub struct Plan {
     pub luma: bool,
@@ -81,7 +81,7 @@ fn primary_by(p: Plan, variance: u32) -> u16
     }
 }
 
-/// The settings of a block of that direction and variance.
+/// The settings of a block with this direction and variance.
 pub fn settings_at(p: Plan, direction: usize, variance: u32) -> Settings
     requires plan { IsCdefPlan p }
     requires direction { direction < 8 }

@@ -33,7 +33,7 @@ pub fn log2_of(strength: u32) -> u32
     if strength == 0 { 0 } else { strength.ilog2() }
 }
 
-/// How far a difference of that size pulls.
+/// How far a difference of this size pulls.
 #[inline(always)]
 pub fn pull_of(size: u16, threshold: u16, shift: u32) -> u16
     requires { shift < 16 }
@@ -72,7 +72,7 @@ fn variance_class(var: u32) -> u32
     if v == 0 { 0 } else { v.ilog2().min(12) }
 }
 
-/// The primary strength of a luma block of that variance.
+/// The primary strength of a luma block with this variance.
 pub fn adjusted(strength: u32, var: u32) -> u32
     requires { strength ≤ 240 }
     ensures value { result ≡ adjusted_strength strength var }
@@ -85,7 +85,7 @@ pub fn adjusted(strength: u32, var: u32) -> u32
     }
 }
 
-/// The primary strength of a luma block of that variance, both not negative.
+/// The primary strength of a luma block with this variance; neither number is negative.
 pub fn adjust_strength(strength: i32, var: i32) -> i32
     requires strength_low { pos 0 ≤ℤ strength }
     requires strength_high { strength ≤ℤ pos 240 }

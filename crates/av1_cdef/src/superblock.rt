@@ -29,7 +29,7 @@ fn secondary_in(byte: u8) -> u16
     }
 }
 
-// What 1 at 8 bits becomes at a depth with so many bits more.
+// What 1 at 8 bits becomes at a depth with `shift` bits more.
 fn scale_of(shift: usize) -> u16
     requires { shift ≤ 4 }
     ensures value { result ≡ 2 ^ shift }

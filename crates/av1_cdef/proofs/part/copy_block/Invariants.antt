@@ -4,6 +4,7 @@ use Rattle.av1_cdef.specs.Picture.{cdef_picture_of}
 use Rattle.av1_cdef.specs.Part.{copied_at}
 use Rattle.av1_cdef.proofs.part.copy_block.Given as goal
 
+-- The first rows of the block are copied, and the region keeps its place.
 abbrev pub invariant-loop-i : goal.invariant-loop-i
 invariant-loop-i g l = record {
   part : IsSamePart l.initial.p l.p;

@@ -3,6 +3,7 @@ use Rattle.std.proofs.lemmas.List.{length-map, get_or-map}
 use Rattle.av1_plane.specs.Numbers.{InDepth}
 use Rattle.av1_cdef.proofs.tests.see.Goals as goal
 
+-- a number that fits 8 bits is in depth at 8 bits
 byte : (n : ℕ) → Fits w8 n → InDepth 256 (pos n)
 byte n h = (grind arith, grind arith)
 
