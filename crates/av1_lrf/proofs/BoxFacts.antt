@@ -23,7 +23,7 @@ between k m b c q x d e h0 h1 =
     grind arith in
     grind arith
 
--- one number more
+-- one number more keeps the bound on how much numbers vary
 varies_more : (k m b l c q x : ℕ) → x ≤ m → Varies (k + 1) m b (l + 1) c q → Varies (k + 1) m b l (c + x) (q + x * x)
 varies_more k m b l c q x lx h = record { each = each }
   where
@@ -39,11 +39,11 @@ varies_more k m b l c q x lx h = record { each = each }
         let tc : c + e * m + x ≡ c + x + e * m = omega arith in
         subst (λ (a : ℕ). (k + 1) * (q + x * x + e * (m * m)) ≤ b + a * a) tc (subst (λ (a : ℕ). (k + 1) * a ≤ b + (c + e * m + x) * (c + e * m + x)) tq g)
 
--- a spread by other words for its numbers
+-- a bound on how much numbers vary holds of equal sums
 varies_is : (n m b l c q l' c' q' : ℕ) → l ≡ l' → c ≡ c' → q ≡ q' → Varies n m b l c q → Varies n m b l' c' q'
 varies_is n m b l c q l' c' q' el ec eq h = subst (λ (a : ℕ). Varies n m b a c' q') el (subst (λ (a : ℕ). Varies n m b l a q') ec (subst (λ (a : ℕ). Varies n m b l c a) eq h))
 
--- a row of numbers more
+-- a row of numbers more keeps the bound on how much numbers vary
 varies_row : (k m b l c q j : ℕ) (g : ℕ → ℕ) → ((i : ℕ) → i < j → g i ≤ m) → Varies (k + 1) m b (l + j) c q → Varies (k + 1) m b l (c + total_of_first j g) (q + total_of_first j (λ i. g i * g i))
 varies_row k m b l c q zero g r h = varies_is _ _ _ _ _ _ _ _ _ (omega arith) (omega arith) (omega arith) h
 varies_row k m b l c q (suc j) g r h =
@@ -51,7 +51,7 @@ varies_row k m b l c q (suc j) g r h =
     (varies_more k m b l (c + total_of_first j g) (q + total_of_first j (λ i. g i * g i)) (g j) (r j (omega arith))
     (varies_row k m b (l + 1) c q j g (λ i li. r i (omega arith)) (varies_is _ _ _ _ _ _ _ _ _ (omega arith) refl refl h)))
 
--- rows of numbers
+-- rows of numbers have a bound on how much they vary
 varies_rows : (k m b l j w : ℕ) (g : ℕ → ℕ → ℕ) → ((y i : ℕ) → y < j → i < w → g y i ≤ m) → Varies (k + 1) m b (l + j * w) 0 0 → Varies (k + 1) m b l (total_of_first j (λ y. total_of_first w (g y))) (total_of_first j (λ y. total_of_first w (λ i. g y i * g y i)))
 varies_rows k m b l zero w g r h = varies_is _ _ _ _ _ _ _ _ _ (omega arith) refl refl h
 varies_rows k m b l (suc j) w g r h =
@@ -66,7 +66,7 @@ row_total (suc j) m g r =
     let last : g j ≤ m = r j (omega arith) in
     grind arith
 
--- the sum over a square of equal rows
+-- the sum over a square is bounded by its side and its greatest sample
 pub box_total : (n m : ℕ) (f : Table) (x y : ℕ) → ((i j : ℕ) → i < n → j < n → f (x + i) (y + j) ≤ m) → box f n x y ≤ n * (n * m)
 box_total n m f x y r = row_total n (n * m) (λ j. total_of_first n (λ i. f (x + i) (y + j))) (λ j lj. row_total n m (λ i. f (x + i) (y + j)) (λ i li. r i j li lj))
 

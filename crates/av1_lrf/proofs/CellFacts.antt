@@ -15,16 +15,16 @@ sum_same (suc n) f g h =
     let last : f n ≡ g n = h n (omega arith) in
     ap (λ a. a +ℤ f n) rest ∙ ap (λ b. sum_of_first n g +ℤ b) last
 
--- and so are sums by taps
+-- equal numbers have equal sums by taps
 pub tapped_same : (ts : List ℤ) (f g : ℕ → ℤ) → ((k : ℕ) → k < 7 → f k ≡ g k) → tapped ts f ≡ tapped ts g
 tapped_same ts f g h = sum_same 7 (λ i. sample ts i *ℤ f i) (λ i. sample ts i *ℤ g i) (λ k l. ap (λ v. sample ts k *ℤ v) (h k l))
 
--- a sum across is that of the definition
+-- a sum across of read samples is the sum of the definition
 pub across_made : (r : Rounding) (ts : List ℤ) (s : Scene) (x y : ℕ) (f : ℕ → ℤ) → ((k : ℕ) → k < 7 → f k ≡ stripe_source s (x + k) y) → reduced r (tapped ts f) ≡ wiener_across r ts s x y
 unfolding wiener_across
 across_made r ts s x y f h = ap (reduced r) (tapped_same ts f (λ k. stripe_source s (x + k) y) h)
 
--- and a sum down
+-- equal rows have equal sums down
 pub down_made : (ra : Rounding) (ta : List ℤ) (rd : Rounding) (td : List ℤ) (s : Scene) (x y : ℕ) (f : ℕ → ℤ) → ((k : ℕ) → k < 7 → f k ≡ wiener_across ra ta s x (y + k)) → reduced rd (tapped td f) ≡ down ra ta rd td s x y
 unfolding down
 down_made ra ta rd td s x y f h = ap (reduced rd) (tapped_same td f (λ k. wiener_across ra ta s x (y + k)) h)
@@ -34,16 +34,16 @@ pub line_source : (s : Scene) (row line : List ℤ) (x y i width : ℕ) → 0 < 
 line_source s row line x y i width some l e r f =
     f i l ∙ ap (λ w. get_or row (nearest_in_stripe w (x + i)) (pos 0)) e ∙ r (nearest_in_stripe s.enhanced.width (x + i)) (omega arith)
 
--- a row that is read past its ends
+-- a row that is read past its ends reads as the stripe's row
 pub row_source : (s : Scene) (row : List ℤ) (x y width : ℕ) → 0 < s.enhanced.width → width ≡ s.enhanced.width → ((at : ℕ) → at < s.enhanced.width → get_or row at (pos 0) ≡ in_stripe s at (nearest_in_stripe s.enhanced.height y)) → get_or row (nearest_in_stripe width x) (pos 0) ≡ stripe_source s x y
 row_source s row x y width some e r =
     ap (λ w. get_or row (nearest_in_stripe w x) (pos 0)) e ∙ r (nearest_in_stripe s.enhanced.width x) (omega arith)
 
--- cells of no rows
+-- cells of no rows have all values asked for
 pub no_cells : (n : ℕ) (f : ℕ → ℕ → ℤ) (xs : List ℤ) → HasStripeCells n 0 f xs
 no_cells n f xs = record { each = λ i j l m. absurd (omega arith) }
 
--- one row of cells more
+-- one row of cells more is filtered
 pub cells_more : (n m : ℕ) (f : ℕ → ℕ → ℤ) (g : ℕ → ℤ) (xs ys : List ℤ) → n ≤ 64 → HasStripeCells n m f xs → HasSampleRun (m * 64) n g xs ys → ((i : ℕ) → i < n → g i ≡ f i m) → HasStripeCells n (m + 1) f ys
 cells_more n m f g xs ys small h run e = record { each = each }
   where

@@ -13,22 +13,22 @@ use Rattle.av1_lrf.specs.Restore.{PlaneSettings, restored}
 abbrev pub all_100 : Table
 all_100 x y = 100
 
--- radius 2 on an even row
+-- a pass of radius 2 on an even row of a flat picture
 pub flat_even : pass 8 0 2 false all_100 100 3 3 ≡ 1602
 unfolding pass own_weight mean_part
 flat_even = refl
 
--- radius 2 on an odd row
+-- a pass of radius 2 on an odd row of a flat picture
 pub flat_odd : pass 8 0 2 true all_100 100 3 3 ≡ 1602
 unfolding pass own_weight mean_part
 flat_odd = refl
 
--- radius 1
+-- a pass of radius 1 on a flat picture
 pub flat_one : pass 8 0 1 false all_100 100 3 3 ≡ 1600
 unfolding pass own_weight mean_part
 flat_one = refl
 
--- both passes and the sample by the usual weights
+-- a flat picture stays when guided with the usual weights
 pub flat_stays : guided 8 0 (neg_ℤ (pos 32) ∷ pos 31 ∷ []) false all_100 100 3 3 ≡ pos 100
 unfolding guided pass own_weight mean_part
 flat_stays = refl
@@ -48,7 +48,7 @@ column_of from = record { samples = numbered from 72; origin = 0; step = 1; widt
 abbrev pub two_stripes : Scene
 two_stripes = record { deblocked = column_of 0; enhanced = column_of 1000; stripe = stripe 0 1 }
 
--- how many stripes there are
+-- a frame of 72 rows has two stripes
 pub stripes_of_72 : stripe_count 72 ≡ 2
 stripes_of_72 = refl
 
@@ -66,7 +66,7 @@ below_picture = refl
 abbrev pub step_row : List ℤ
 step_row = pos 100 ∷ pos 100 ∷ pos 100 ∷ pos 108 ∷ pos 108 ∷ pos 108 ∷ pos 108 ∷ pos 108 ∷ []
 
--- eight such rows
+-- a picture of eight rows with a step
 abbrev pub step_picture : Picture
 step_picture = record {
   samples = step_row ++ step_row ++ step_row ++ step_row ++ step_row ++ step_row ++ step_row ++ step_row;
@@ -80,7 +80,7 @@ step_picture = record {
 abbrev pub across_alone : List (List ℤ)
 across_alone = (pos 0 ∷ pos 0 ∷ pos 0 ∷ []) ∷ (pos 3 ∷ neg_ℤ (pos 7) ∷ pos 15 ∷ []) ∷ []
 
--- one unit with them
+-- a table of one unit with the coefficients
 abbrev pub one_unit : Units
 one_unit = record {
   cfg = record { lrf_type = 1; unit_size = 64; sb_h_shift = 0; sb_v_shift = 0; sb_cols = 1; sb_rows = 1; stripe_height = 64; cols = 1; rows = 1 };
@@ -106,12 +106,12 @@ step_sharpened = refl
 abbrev pub all_5 : Table
 all_5 x y = 5
 
--- 49 samples of 5
+-- the sum over a corner of 49 samples of 5
 pub corner_of_5 : corner_sum all_5 7 7 ≡ 245
 unfolding corner_sum
 corner_of_5 = refl
 
--- and their squares
+-- the sum of the squares over a corner of 25 samples
 pub corner_of_25 : corner_sum (squared all_5) 7 7 ≡ 1225
 unfolding corner_sum
 corner_of_25 = refl

@@ -29,7 +29,7 @@ use Rattle.av1_lrf.specs.Restore.{restored, stored_sample, with_restored_picture
 use Rattle.av1_lrf.specs.Units.{FitPicture}
 use Rattle.av1_lrf.specs.Frames.{CanRestore, CanRestoreFrame, IsRestoredPlane, IsRestoredFrame}
 
--- a test that is met, and one that is not, by the four sides of a rectangle
+-- a value inside a rectangle and another outside, by the rectangle's four sides
 choice : (xo yo w h x y : ℕ) (a v o : ℤ) → (xo ≤ x → x < xo + w → yo ≤ y → y < yo + h → a ≡ v) → (x < xo → a ≡ o) → (xo + w ≤ x → a ≡ o) → (y < yo → a ≡ o) → (yo + h ≤ y → a ≡ o) →
     a ≡ (if (nat_le xo x && nat_lt x (xo + w)) && (nat_le yo y && nat_lt y (yo + h)) then v else o)
 choice xo yo w h x y a v o inside left right above below = grind (arith, nat_tests)
@@ -57,11 +57,11 @@ area_stored p w h f ys some wide area k =
         let row : k / p.cfg.stride ≡ p.cfg.yorigin + b = ap (λ (n : ℕ). n / p.cfg.stride) at ∙ div-mul-add (p.cfg.yorigin + b) p.cfg.stride (p.cfg.xorigin + a) (omega arith) in
         none a b ha hb column row)
 
--- a plane by its parts
+-- a plane by its layout and its samples
 plane_of : PlaneConfig → List ℤ → PlaneView
 plane_of cfg samples = record { cfg = cfg; samples = samples }
 
--- a plane whose samples are those, place by place, that a picture leaves
+-- a plane with the samples that a picture leaves at each place is the plane with the picture
 with_picture_is : (p : PlaneView) (w h : ℕ) (f : ℕ → ℕ → ℤ) (cfg : PlaneConfig) (ys : List ℤ) → cfg ≡ p.cfg → length ys ≡ length p.samples → ((k : ℕ) → k < length p.samples → sample ys k ≡ stored_sample p w h f k) → plane_of cfg ys ≡ with_restored_picture p w h f
 unfolding with_restored_picture plane_of
 with_picture_is p w h f cfg ys e long each =
@@ -87,13 +87,13 @@ empty_plane_is number p u d a none =
     (restored (plane_settings p u a.cfg) (picture_in (visible p.width a.cfg.xdec) (visible p.height a.cfg.ydec) (view_plane number d)) (picture_in (visible p.width a.cfg.xdec) (visible p.height a.cfg.ydec) (view_plane number a)))
     a.cfg (plane_numbers number a) refl refl (λ k l. absurd (omega arith))
 
--- the visible side of a plane
+-- the visible side of a plane is positive and at most 65536
 record IsVisibleSide (side dec : ℕ) : Type 0 where
   some : 0 < visible side dec
   small : visible side dec ≤ 65536
   within : visible side dec ≤ rounded side / 2 ^ dec
 
--- the visible side lies in the rounded one
+-- the visible side of a plane lies in the rounded one
 visible_side : (side dec : ℕ) → dec ≤ 1 → 1 ≤ side → side ≤ 65536 → IsVisibleSide side dec
 visible_side side zero l some small = record { some = omega arith; small = omega arith; within = omega arith }
 visible_side side (suc zero) l some small = record { some = omega arith; small = omega arith; within = omega arith }
@@ -204,13 +204,13 @@ no_samples p a e none =
     let size : a.cfg.stride * a.cfg.alloc_height ≡ 0 = ap (λ (n : ℕ). n * a.cfg.alloc_height) step ∙ omega arith in
     a.stored ∙ size
 
--- a fact by how many planes there are
+-- a fact that holds of one plane and of more holds of each number of planes
 one_or_more : (n : ℕ) {P : Type 0} → (n ≤ 1 → P) → (1 < n → P) → P
 one_or_more zero f g = f (omega arith)
 one_or_more (suc zero) f g = f (omega arith)
 one_or_more (suc (suc n)) f g = g (omega arith)
 
--- a frame by its planes
+-- a frame by its three planes
 frame_of : PlaneView → PlaneView → PlaneView → Three PlaneView
 frame_of y u v = record { y = y; u = u; v = v }
 

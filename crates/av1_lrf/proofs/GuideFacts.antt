@@ -6,20 +6,20 @@ use Rattle.av1_lrf.specs.declared.guide.Guide.{Guide}
 use Rattle.av1_lrf.specs.Integral.{HasSumRun}
 use Rattle.av1_lrf.specs.Guides.{index_by, cell_box, cell_weight, cell_mean, weight_at, mean_by, AtMost, HasGuides}
 
--- a product is cut to 255
+-- the product of variation and strength is cut to 255
 pub index_small : (g : Guide) (sum squares : ℕ) → index_by g sum squares ≤ 255
 unfolding index_by
 index_small g sum squares = omega arith
 
--- a run that is written over by another
+-- a run that is written over by another is the other run
 pub run_then : (at n : ℕ) (f g h : ℕ → ℕ) (xs ys zs : List ℕ) → HasSumRun at n f xs ys → HasSumRun at n g ys zs → ((i : ℕ) → i < n → g i ≡ h i) → HasSumRun at n h xs zs
 run_then at n f g h xs ys zs p q e = record { on = λ i l. q.on i l ∙ e i l; off = λ k o. q.off k o ∙ p.off k o; long = q.long ∙ p.long }
 
--- cells of no rows
+-- cells of no rows have all values asked for
 pub guides_none : (n : ℕ) (f : ℕ → ℕ → ℕ) (xs : List ℕ) → HasGuides n 0 f xs
 guides_none n f xs = record { each = λ i k l m. absurd (omega arith) }
 
--- one row more
+-- one row of cells more has its values
 pub guides_more : (n m : ℕ) (f : ℕ → ℕ → ℕ) (g : ℕ → ℕ) (xs ys : List ℕ) → n ≤ 66 → HasGuides n m f xs → HasSumRun (m * 66) n g xs ys → ((i : ℕ) → i < n → g i ≡ f i m) → HasGuides n (m + 1) f ys
 guides_more n m f g xs ys small h run e = record { each = each }
   where
@@ -54,11 +54,11 @@ pub mean_most : (one_by w sum : ℕ) → mean_by one_by w sum ≤ 1048576
 unfolding mean_by
 mean_most one_by w sum = omega arith
 
--- and so for the weights in cells
+-- a weight in cells is at most 256
 pub cell_weight_most : (g : Guide) (cells squares : List ℕ) (step at : ℕ) → cell_weight g cells squares step at ≤ 256
 cell_weight_most g cells squares step at = weight_most (index_by g (cell_box cells at step g.side) (cell_box squares at step g.side))
 
--- and for the means in cells
+-- a mean in cells is at most 2^20
 pub cell_mean_most : (g : Guide) (cells squares : List ℕ) (step at : ℕ) → cell_mean g cells squares step at ≤ 1048576
 cell_mean_most g cells squares step at = mean_most g.one_by (cell_weight g cells squares step at) (cell_box cells at step g.side)
 

@@ -6,11 +6,11 @@ use Rattle.av1_lrf.specs.Sums.{total_of_first}
 use Rattle.av1_lrf.specs.Integral.{HasSumRun, HasCornerSums, corner_sum}
 use Rattle.av1_lrf.specs.Guided.{Table}
 
--- a run of no cells
+-- a run of no cells changes nothing
 pub cells_none : (at : ℕ) (f : ℕ → ℕ) (xs : List ℕ) → HasSumRun at 0 f xs xs
 cells_none at f xs = record { on = λ i l. absurd (omega arith); off = λ k h. refl; long = refl }
 
--- one cell more
+-- one cell more of a run is written
 pub cells_more : (at i : ℕ) (f : ℕ → ℕ) (xs ys : List ℕ) (v : ℕ) → at + i < length ys → v ≡ f i → HasSumRun at i f xs ys → HasSumRun at (i + 1) f xs (set ys (at + i) v)
 cells_more at i f xs ys v l e h = record { on = on; off = off; long = length-set ys (at + i) v ∙ h.long }
   where
@@ -30,18 +30,18 @@ cells_more at i f xs ys v l e h = record { on = on; off = off; long = length-set
     off : (k : ℕ) → ((j : ℕ) → j < i + 1 → k ≢ at + j) → get_or (set ys (at + i) v) k 0 ≡ get_or xs k 0
     off k n = other k (n i (omega arith)) ∙ h.off k (λ j lj. n j (omega arith))
 
--- a run of as many cells
+-- a run of as many cells is the run
 pub cells_size : (at m n : ℕ) (f : ℕ → ℕ) (xs ys : List ℕ) → m ≡ n → HasSumRun at m f xs ys → HasSumRun at n f xs ys
 cells_size at m n f xs ys e h = subst (λ k. HasSumRun at k f xs ys) e h
 
--- one entry more in a sum modulo 2 ^ 32
+-- one entry more adds to a sum modulo 2^32
 pub total_more : (i : ℕ) (g : ℕ → ℕ) (s : ℕ) → s ≡ total_of_first i g % 2 ^ 32 → (s + g i) % 2 ^ 32 ≡ total_of_first (i + 1) g % 2 ^ 32
 total_more i g s e =
     let next : i + 1 ≡ suc i = omega arith in
     let more : total_of_first (i + 1) g ≡ total_of_first i g + g i = ap (λ (n : ℕ). total_of_first n g) next in
     omega arith
 
--- no column has the sum 0
+-- the sum of zeros is 0
 zero_rows : (n : ℕ) → total_of_first n (λ y. 0) ≡ 0
 zero_rows zero = refl
 zero_rows (suc n) = let rest : total_of_first n (λ y. 0) ≡ 0 = zero_rows n in omega arith
@@ -51,11 +51,11 @@ zero_corner : (f : Table) (r : ℕ) → corner_sum f 0 r ≡ 0
 unfolding corner_sum
 zero_corner f r = zero_rows r
 
--- a cell above and a sum, modulo 2 ^ 32
+-- equal numbers modulo 2^32 have equal sums modulo 2^32
 wrapped_sum : (a b s t : ℕ) → a ≡ b % 2 ^ 32 → s ≡ t → (a + s) % 2 ^ 32 ≡ (b + t) % 2 ^ 32
 wrapped_sum a b s t e f = omega arith
 
--- a cell of the row above and a sum
+-- the cell above and the row's sum give the corner's sum modulo 2^32
 pub cell_sum : (a b s t : ℕ) → a ≡ b → s ≡ t % 2 ^ 32 → (a + s) % 2 ^ 32 ≡ (b + t) % 2 ^ 32
 cell_sum a b s t e f = omega arith
 
@@ -87,7 +87,7 @@ corners_none f step cols xs ys h = record { each = each }
         let rest : corner_sum f c r % 2 ^ 32 ≡ 0 = rw total refl in
         ap (λ (k : ℕ). get_or ys k 0) place ∙ h.on c lc ∙ sym rest
 
--- one row more
+-- one row more of prefix sums is in the cells
 pub corners_more : (f : Table) (step cols j : ℕ) (g : ℕ → ℕ) (a b c : List ℕ) → cols < step → (j + 1) * step + cols < length a → b ≡ set a ((j + 1) * step) 0 → HasSumRun ((j + 1) * step + 1) cols (λ i. (get_or b (j * step + 1 + i) 0 + total_of_first (i + 1) g) % 2 ^ 32) b c → HasCornerSums f step cols j a → ((i : ℕ) → i < cols → g i ≡ f i j) → HasCornerSums f step cols (j + 1) c
 corners_more f step cols j g a b c wide inside made run h e = record { each = each }
   where
@@ -138,7 +138,7 @@ corners_more f step cols j g a b c wide inside made run h e = record { each = ea
             let at : suc i ≡ i + 1 = omega arith in
             subst (λ (k : ℕ). get_or c ((j + 1) * step + k) 0 ≡ corner_sum f k (j + 1) % 2 ^ 32) (sym at) (later i (omega arith))
 
--- the square of a sample
+-- the square of a sample of 16 bits fits 32 bits
 pub square_fits : (v : ℕ) → v ≤ 65535 → v * v < 2 ^ 32
 square_fits v l =
     let most : v * v ≤ 65535 * 65535 = mul-le v v 65535 65535 l l in

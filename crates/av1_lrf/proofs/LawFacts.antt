@@ -23,11 +23,11 @@ at_most b i [] k h = omega arith
 at_most b i (r ∷ rs) zero h = grind (arith, nat_tests)
 at_most b i (r ∷ rs) (suc k) h = at_most b i rs k (grind (arith, nat_tests))
 
--- the strengths for radius 1
+-- the strengths for radius 1 are at most 3236
 pub strength_1 : (set : ℕ) → strength set 1 ≤ 3236
 strength_1 set = at_most 3236 1 SGRPROJ_PARAMS_S set refl
 
--- the strengths for radius 2
+-- the strengths for radius 2 are at most 140
 pub strength_2 : (set : ℕ) → strength set 2 ≤ 140
 strength_2 set = at_most 140 0 SGRPROJ_PARAMS_S set refl
 
@@ -40,7 +40,7 @@ weight_low p s = at (rounded_shift (p * s) 20)
         let some : 0 < z → 1 ≤ (z * 256 + z / 2) / (z + 1) = λ l. (le-div_iff_mul-le (omega arith)).1 (omega arith) in
         grind (arith, nat_tests)
 
--- a sum in two parts
+-- a sum in two parts is the sum of both
 pub total_split : (a b : ℕ) (g : ℕ → ℕ) → total_of_first (a + b) g ≡ total_of_first a g + total_of_first b (λ i. g (a + i))
 total_split a zero g =
     let e : a + 0 ≡ a = omega arith in
@@ -52,7 +52,7 @@ total_split a (suc b) g =
     let last : total_of_first (a + b) g + g (a + b) ≡ total_of_first a g + (total_of_first b (λ i. g (a + i)) + g (a + b)) = omega arith in
     ap (λ (n : ℕ). total_of_first n g) e ∙ last
 
--- a sum of sums
+-- the sum of two functions' sums is the sum of their sums
 total_sum : (n : ℕ) (g h : ℕ → ℕ) → total_of_first n (λ i. g i + h i) ≡ total_of_first n g + total_of_first n h
 total_sum zero g h = refl
 total_sum (suc n) g h =
@@ -64,7 +64,7 @@ total_same : (n : ℕ) (g h : ℕ → ℕ) → ((i : ℕ) → g i ≡ h i) → t
 total_same zero g h e = refl
 total_same (suc n) g h e = ap (λ a. a + g n) (total_same n g h e) ∙ ap (λ a. total_of_first n h + a) (e n)
 
--- the four corners of a rectangle
+-- the sums at the corners of a rectangle give the sum over it
 pub corners : (f : Table) (x y n m : ℕ) → corner_sum f (x + n) (y + m) + corner_sum f x y ≡ corner_sum f (x + n) y + corner_sum f x (y + m) + total_of_first m (λ j. total_of_first n (λ i. f (x + i) (y + j)))
 unfolding corner_sum
 corners f x y n m =
@@ -81,29 +81,29 @@ corners f x y n m =
 wrap_four : (a b c d s : ℕ) → a + d ≡ b + c + s → s < 2 ^ 32 → wrapped a b c d ≡ s
 wrap_four a b c d s e l = omega arith
 
--- squares of 3 by 3 and of 5 by 5
+-- the sums over a square of radius 1 are within their bounds
 pub sums_9 : (bd : ℕ) (f : Table) (x y : ℕ) → IsDepth bd → SquareBelow bd 3 f x y → AreSums 4 (2 ^ bd - 1) (box f 3 x y) (box (squared f) 3 x y)
 sums_9 bd f x y h r =
     let low : (i j : ℕ) → i < 3 → j < 3 → f (x + i) (y + j) ≤ 2 ^ bd - 1 = λ i j li lj. omega (arith, r i j li lj) in
     record { varies = box_varies 3 4 (2 ^ bd - 1) f x y refl low; total = omega (arith, box_total 3 (2 ^ bd - 1) f x y low) }
 
--- the sums over a square of radius 2
+-- the sums over a square of radius 2 are within their bounds
 pub sums_25 : (bd : ℕ) (f : Table) (x y : ℕ) → IsDepth bd → SquareBelow bd 5 f x y → AreSums 12 (2 ^ bd - 1) (box f 5 x y) (box (squared f) 5 x y)
 sums_25 bd f x y h r =
     let low : (i j : ℕ) → i < 5 → j < 5 → f (x + i) (y + j) ≤ 2 ^ bd - 1 = λ i j li lj. omega (arith, r i j li lj) in
     record { varies = box_varies 5 12 (2 ^ bd - 1) f x y refl low; total = omega (arith, box_total 5 (2 ^ bd - 1) f x y low) }
 
--- the greatest sample
+-- the greatest sample of a depth is at most 4095
 pub depth_most : (bd : ℕ) → IsDepth bd → 2 ^ bd - 1 ≤ 4095
 depth_most bd h = elim h [ inl e ↦ rw e (lit≤ tt) | inr k ↦ elim k [ inl e ↦ rw e (lit≤ tt) | inr e ↦ rw e (lit≤ tt) ] ]
 
--- what is computed of sums fits 32 bits
+-- the variation of a square of radius 1, by the strength of a set, fits 32 bits
 pub variation_fits_1 : (bd set sum squares : ℕ) → IsDepth bd → AreSums 4 (2 ^ bd - 1) sum squares → variation bd 9 sum squares * strength set 1 + 2 ^ 19 < 2 ^ 32
 variation_fits_1 bd set sum squares h s =
     let all : variation bd 9 sum squares * strength set 1 ≤ 1312100 * 3236 = mul-le (variation bd 9 sum squares) (strength set 1) 1312100 3236 (variation_9 bd sum squares h s) (strength_1 set) in
     omega arith
 
--- its variation fits the product
+-- the variation of a square of radius 2, by the strength of a set, fits 32 bits
 pub variation_fits_2 : (bd set sum squares : ℕ) → IsDepth bd → AreSums 12 (2 ^ bd - 1) sum squares → variation bd 25 sum squares * strength set 2 + 2 ^ 19 < 2 ^ 32
 variation_fits_2 bd set sum squares h s =
     let all : variation bd 25 sum squares * strength set 2 ≤ 10300000 * 140 = mul-le (variation bd 25 sum squares) (strength set 2) 10300000 140 (variation_25 bd sum squares h s) (strength_2 set) in
@@ -117,7 +117,7 @@ mean_fits c m w sum o lw ls lm lo =
     let all : (256 - w) * sum * o ≤ 255 * ((2 * c + 1) * 4095) * o = mul-le ((256 - w) * sum) o (255 * ((2 * c + 1) * 4095)) o part (omega arith) in
     grind arith
 
--- the law on products and means
+-- 32 bits hold each number that is computed for any square of samples
 pub box_fits : EachBoxFits
 box_fits bd radius set f x y h r below = elim r [
   | inl e ↦ subst (λ (k : ℕ). Fits32 bd k set f x y) (sym e) (one (subst (λ (k : ℕ). SquareBelow bd (box_side k) f x y) e below))
@@ -142,7 +142,7 @@ direct f n m x y l r =
     let few : box f n x y ≤ n * (n * m) = box_total n m f x y r in
     wrap_four (corner_sum f (x + n) (y + n)) (corner_sum f x (y + n)) (corner_sum f (x + n) y) (corner_sum f x y) (box f n x y) (corners f x y n n ∙ ap (λ (k : ℕ). k + box f n x y) (add_comm (corner_sum f (x + n) y) (corner_sum f x (y + n)))) (omega arith)
 
--- the law on corner differences
+-- the prefix sums at a square's corners give the sum over the square
 pub box_is_direct : EachBoxIsDirect
 box_is_direct bd radius f x y h r below = elim r [ inl e ↦ at (omega arith) | inr e ↦ at (omega arith) ]
   where

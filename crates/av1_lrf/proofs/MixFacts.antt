@@ -1,4 +1,4 @@
--- Both passes of the self-guided filter, joined.
+-- The two passes of the self-guided filter, joined.
 use Rattle.std.proofs.Common.{◌≡◌, ℕ, ℤ, pos, ◌+◌, ◌-◌, ◌*◌, ◌+ℤ◌, ◌*ℤ◌, ◌≤ℤ◌, List, refl, ◌∙◌, ap, arith, Bool, ◌/◌, ◌%◌}
 use Rattle.std.specs.Prelude.{unsigned_abs, ◌==◌}
 use Rattle.av1_lrf.specs.Rows.{sample}
@@ -9,7 +9,7 @@ use Rattle.av1_lrf.specs.Taps.{rounding_of}
 use Rattle.av1_lrf.specs.Guides.{mixed, guided_sample, pass_result}
 use Rattle.av1_lrf.proofs.Products.{limited_low, limited_high}
 
--- three products, rounded
+-- three products, rounded and limited, are the mix
 pub mixed_made : (m : Mix) (f2 v f1 : ℕ) (p q r : ℤ) → p ≡ m.w0 *ℤ pos f2 → q ≡ m.w1 *ℤ pos (v * 16) → r ≡ m.w2 *ℤ pos f1 → reduced (rounding_of m.limits) (p +ℤ q +ℤ r) ≡ mixed m f2 v f1
 unfolding mixed
 mixed_made m f2 v f1 p q r ep eq er = rw (ep, eq, er) refl
@@ -19,7 +19,7 @@ mixed_low : (m : Mix) (f2 v f1 : ℕ) → m.limits.low ≤ℤ mixed m f2 v f1
 unfolding mixed
 mixed_low m f2 v f1 = limited_low m.limits.low m.limits.high (round2 (m.w0 *ℤ pos f2 +ℤ m.w1 *ℤ pos (v * 16) +ℤ m.w2 *ℤ pos f1) m.limits.bits)
 
--- nor higher than the other limit
+-- a mix is at most its upper limit
 mixed_high : (m : Mix) (f2 v f1 : ℕ) → m.limits.low ≤ℤ m.limits.high → mixed m f2 v f1 ≤ℤ m.limits.high
 unfolding mixed
 mixed_high m f2 v f1 h = limited_high m.limits.low m.limits.high (round2 (m.w0 *ℤ pos f2 +ℤ m.w1 *ℤ pos (v * 16) +ℤ m.w2 *ℤ pos f1) m.limits.bits) h
@@ -29,7 +29,7 @@ pub finished_low : (m : Mix) (odd : Bool) (a2 b2 a1 b1 : List ℕ) (p q v : ℕ)
 unfolding guided_sample
 finished_low m odd a2 b2 a1 b1 p q v = mixed_low m _ v _
 
--- nor higher than the other limit
+-- a guided sample is at most its upper limit
 pub finished_high : (m : Mix) (odd : Bool) (a2 b2 a1 b1 : List ℕ) (p q v : ℕ) → m.limits.low ≤ℤ m.limits.high → guided_sample m odd a2 b2 a1 b1 p q v ≤ℤ m.limits.high
 unfolding guided_sample
 finished_high m odd a2 b2 a1 b1 p q v h = mixed_high m _ v _ h
@@ -51,7 +51,7 @@ pub finished_without_strong : (m : Mix) (odd : Bool) (a2 b2 c2 d2 a1 b1 : List �
 unfolding guided_sample pass_result
 finished_without_strong m odd a2 b2 c2 d2 a1 b1 p q v e = rw e refl
 
--- nor does a second one
+-- a second pass without a weight changes nothing
 pub finished_without_weak : (m : Mix) (odd : Bool) (a2 b2 a1 b1 c1 d1 : List ℕ) (p q v : ℕ) → m.weak ≡ 0 → guided_sample m odd a2 b2 a1 b1 p q v ≡ guided_sample m odd a2 b2 c1 d1 p q v
 unfolding guided_sample pass_result
 finished_without_weak m odd a2 b2 a1 b1 c1 d1 p q v e = rw e refl

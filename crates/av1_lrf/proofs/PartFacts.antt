@@ -13,7 +13,7 @@ use Rattle.av1_lrf.specs.Integral.{cell}
 use Rattle.av1_lrf.specs.Guides.{cell_weight, cell_mean, HasGuides, guide_line_at, guide_wide_at, cross_at, pass_result, mixed, guided_sample, IsMixOf, IsPlanOf}
 use Rattle.av1_lrf.proofs.PassFacts.{Cells, cells_made}
 
--- cells by other words for their values
+-- cells with equal values are equal
 guides_same : (n m : ℕ) (f g : ℕ → ℕ → ℕ) (xs : List ℕ) → ((i k : ℕ) → i < n → k < m → f i k ≡ g i k) → HasGuides n m f xs → HasGuides n m g xs
 guides_same n m f g xs e h = record { each = λ i k li lk. h.each i k li lk ∙ e i k li lk }
 
@@ -22,7 +22,7 @@ cell_at : (h : Table) (n m x : ℕ) (r : ℕ → ℕ) (cells : List ℕ) → Has
 cell_at h n m x r cells g q i k u w e li lk ex ey =
     ap (λ (j : ℕ). cell cells j) e ∙ g.each i k li lk ∙ ap (λ (a : ℕ). h a (r k)) ex ∙ ap (h u) ey
 
--- a weighted row of cells
+-- a weighted row of cells is the weighted row of the definition
 line_made : (h : Table) (n m x : ℕ) (r : ℕ → ℕ) (cells : List ℕ) → HasGuides (n + 2) m (λ i k. h (x + i + 2) (r k)) cells → (q i k u w : ℕ) → q ≡ k * 66 + i → i < n → k < m → x + i + 3 ≡ u → r k ≡ w → guide_line_at cells q ≡ row_sum h u w
 unfolding guide_line_at
 line_made h n m x r cells g q i k u w e li lk ex ey =
@@ -31,16 +31,16 @@ line_made h n m x r cells g q i k u w e li lk ex ey =
     let c : cell cells (q + 2) ≡ h (u + 1) w = cell_at h (n + 2) m x r cells g (q + 2) (i + 2) k (u + 1) w (omega arith) (omega arith) lk (omega arith) ey in
     rw (a, b, c) refl
 
--- a choice by the parity of a row
+-- a choice by the parity of a row is a choice by its test
 by_parity : (b : Bool) (v1 v2 v3 o1 o2 o3 : ℕ) → (b ≡ true → v1 ≡ o1) → (b ≡ false → v2 ≡ o2) → (b ≡ false → v3 ≡ o3) → (if b then v1 else v2 + v3) ≡ (if b then o1 else o2 + o3)
 by_parity true v1 v2 v3 o1 o2 o3 e f g = e refl
 by_parity false v1 v2 v3 o1 o2 o3 e f g = rw (f refl, g refl) refl
 
--- an odd row
+-- a row that tests as odd is odd
 is_odd : (n : ℕ) → (n % 2 == 1) ≡ true → n % 2 ≡ 1
 is_odd n e = grind (arith, nat_tests)
 
--- an even row
+-- a row that doesn't test as odd is even
 is_even : (n : ℕ) → (n % 2 == 1) ≡ false → n % 2 ≡ 0
 is_even n e = grind (arith, nat_tests)
 
@@ -59,7 +59,7 @@ wide_made h n m x y cells g u w lx hx ly lm even =
     (λ o. let p = is_even (w - y) o in line_made h n m x (λ j. y + 2 * j + 2) cells g ((w - y) / 2 * 66 + (u - x) + 66) (u - x) ((w - y) / 2 + 1) (u + 3) (w + 3 + 1) (omega arith) (omega arith) lm (omega arith) (omega arith))
     ∙ ap (λ (j : ℕ). around 2 (j == 1) h (u + 3) (w + 3)) same
 
--- and that of radius 1
+-- the sum of radius 1 from cells is the sum of the definition
 cross_made : (h : Table) (n m x y : ℕ) (cells : List ℕ) → HasGuides (n + 2) m (λ i k. h (x + i + 2) (y + k + 2)) cells → (u w : ℕ) → x ≤ u → u < x + n → y ≤ w → w - y + 2 < m →
     cross_at cells ((w - y) * 66 + (u - x)) ≡ cross_sum h (u + 3) (w + 3)
 unfolding cross_at
@@ -76,7 +76,7 @@ cross_made h n m x y cells g u w lx hx ly lm =
     let c2 : cell cells ((w - y) * 66 + (u - x) + 134) ≡ h (u + 3 + 1) (w + 3 + 1) = at _ (u - x + 2) (w - y + 2) _ _ (omega arith) (omega arith) (omega arith) (omega arith) (omega arith) in
     rw (a0, a1, a2, b0, b1, b2, c0, c1, c2) refl
 
--- a pass by other words for its sums
+-- a pass with equal sums gives equal samples
 pass_cases : (s a b a' b' v n n' : ℕ) → (s ≢ 0 → a ≡ a') → (s ≢ 0 → b ≡ b') → n ≡ n' → (if s == 0 then v * 16 else rounded_shift (a * v + b) n) ≡ (if s == 0 then v * 16 else rounded_shift (a' * v + b') n')
 pass_cases zero a b a' b' v n n' ea eb en = refl
 pass_cases (suc s) a b a' b' v n n' ea eb en =
@@ -85,26 +85,26 @@ pass_cases (suc s) a b a' b' v n n' ea eb en =
     let fb : b ≡ b' = eb some in
     rw (fa, fb, en) refl
 
--- the bits of radius 2
+-- the bits of a pass of radius 2 are those of the definition
 wide_bits : (odd : Bool) → (if odd then 8 else 9) ≡ 8 + around_bits 2 odd - 4
 wide_bits true = refl
 wide_bits false = refl
 
--- the pass of radius 2
+-- the pass of radius 2 from cells is the pass of the definition
 wide_pass : (bd set s : ℕ) (odd : Bool) (f : Table) (a b v x y : ℕ) → s ≡ strength set 2 → (s ≢ 0 → a ≡ around 2 odd (own_weight bd 2 (strength set 2) f) x y) → (s ≢ 0 → b ≡ around 2 odd (mean_part bd 2 (strength set 2) f) x y) → pass_result s a b v (if odd then 8 else 9) ≡ pass bd set 2 odd f v x y
 unfolding pass_result pass
 wide_pass bd set s odd f a b v x y e ea eb =
     pass_cases s a b (around 2 odd (own_weight bd 2 (strength set 2) f) x y) (around 2 odd (mean_part bd 2 (strength set 2) f) x y) v (if odd then 8 else 9) (8 + around_bits 2 odd - 4) ea eb (wide_bits odd)
     ∙ ap (λ (k : ℕ). if k == 0 then v * 16 else rounded_shift (around 2 odd (own_weight bd 2 (strength set 2) f) x y * v + around 2 odd (mean_part bd 2 (strength set 2) f) x y) (8 + around_bits 2 odd - 4)) e
 
--- the pass of radius 1
+-- the pass of radius 1 from cells is the pass of the definition
 cross_pass : (bd set s : ℕ) (odd : Bool) (f : Table) (a b v x y : ℕ) → s ≡ strength set 1 → (s ≢ 0 → a ≡ cross_sum (own_weight bd 1 (strength set 1) f) x y) → (s ≢ 0 → b ≡ cross_sum (mean_part bd 1 (strength set 1) f) x y) → pass_result s a b v 9 ≡ pass bd set 1 odd f v x y
 unfolding pass_result pass
 cross_pass bd set s odd f a b v x y e ea eb =
     pass_cases s a b (cross_sum (own_weight bd 1 (strength set 1) f) x y) (cross_sum (mean_part bd 1 (strength set 1) f) x y) v 9 9 ea eb refl
     ∙ ap (λ (k : ℕ). if k == 0 then v * 16 else rounded_shift (cross_sum (own_weight bd 1 (strength set 1) f) x y * v + cross_sum (mean_part bd 1 (strength set 1) f) x y) 9) e
 
--- both passes and the sample
+-- both passes and the sample, mixed by a unit's weights, are the guided sample
 mixed_is : (bd set : ℕ) (xqd : List ℤ) (odd : Bool) (f : Table) (m : Mix) (f2 v f1 x y : ℕ) → IsMixOf bd set xqd m → f2 ≡ pass bd set 2 odd f v x y → f1 ≡ pass bd set 1 odd f v x y → mixed m f2 v f1 ≡ guided bd set xqd odd f v x y
 unfolding mixed guided
 mixed_is bd set xqd odd f m f2 v f1 x y h e2 e1 =
@@ -125,13 +125,13 @@ wide_cells : (bd set : ℕ) (xqd : List ℤ) (f : Table) (p : Plan) (step width 
 wide_cells bd set xqd f p step width height cells squares h n rows x y i k lx ly li lk =
     cells_made bd set 2 f p.two cells squares step (width + 6) (height + 6) (y * step + x + k * 2 * step + i) (x + i) (y + 2 * k) h.depth (inr refl) h.two h.sums h.square_sums (λ a b la lb. h.below a b la lb) (grind arith) (omega arith) (omega arith)
 
--- the cells of radius 1
+-- the cells of radius 1 have the weights and means of the definition
 cross_cells : (bd set : ℕ) (xqd : List ℤ) (f : Table) (p : Plan) (step width height : ℕ) (cells squares : List ℕ) → IsPlanOf bd set xqd f p step width height cells squares →
     (n rows x y i k : ℕ) → x + n ≤ width → y + rows ≤ height → i < n + 2 → k < rows + 2 → Cells bd set 1 f p.one cells squares step ((y + 1) * step + x + 1 + k * 1 * step + i) (x + i + 1) (y + k + 1)
 cross_cells bd set xqd f p step width height cells squares h n rows x y i k lx ly li lk =
     cells_made bd set 1 f p.one cells squares step (width + 6) (height + 6) ((y + 1) * step + x + 1 + k * 1 * step + i) (x + i + 1) (y + k + 1) h.depth (inl refl) h.one h.sums h.square_sums (λ a b la lb. h.below a b la lb) (grind arith) (omega arith) (omega arith)
 
--- the samples of a part
+-- the samples of a part are guided as the definition says
 pub part_made : (bd set : ℕ) (xqd : List ℤ) (f : Table) (p : Plan) (step width height : ℕ) (cells squares a2 b2 a1 b1 : List ℕ) (n rows x y m2 m1 : ℕ) → IsPlanOf bd set xqd f p step width height cells squares →
     HasGuides (n + 2) m2 (λ i k. cell_weight p.two cells squares step (y * step + x + k * 2 * step + i)) a2 →
     HasGuides (n + 2) m2 (λ i k. cell_mean p.two cells squares step (y * step + x + k * 2 * step + i)) b2 →

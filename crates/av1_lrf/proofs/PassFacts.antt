@@ -98,7 +98,7 @@ rounded_same v n l =
     let e : (v + 2 ^ n / 2) % 2 ^ 32 ≡ v + 2 ^ n / 2 = omega arith in
     ap (λ (k : ℕ). k / 2 ^ n) e
 
--- a weight by the product cut to 255
+-- a weight by the product cut to 255 is the weight by the product
 weight_same : (z : ℕ) → weight_at (min z 255) ≡ weight_at z
 weight_same z =
     let low : z ≤ 255 → weight_at (min z 255) ≡ weight_at z = λ l. let e : min z 255 ≡ z = omega arith in ap weight_at e in
@@ -132,7 +132,7 @@ weight_made bd set radius f g x y sum squares h small fits es eq =
     rw (es, eq) (ap weight_at (index_same bd (count radius) (strength set radius) (box f (box_side radius) x y) (box (squared f) (box_side radius) x y) g.shift g.count g.strength small fits.product h.deep h.many h.strong)
     ∙ weight_same (rounded_shift (variation bd (count radius) (box f (box_side radius) x y) (box (squared f) (box_side radius) x y) * strength set radius) 20))
 
--- a mean that fits 32 bits
+-- a mean that fits 32 bits is computed without wrapping
 mean_same : (o w sum : ℕ) → (256 - w) * sum * o + 2 ^ 11 < 2 ^ 32 → (256 - w) * sum < 2 ^ 32 → mean_by o w sum ≡ rounded_shift ((256 - w) * sum * o) 12
 unfolding mean_by
 mean_same o w sum l m =
@@ -157,12 +157,12 @@ box_most bd radius f x y d r b =
     let m : (2 * radius + 1) * ((2 * radius + 1) * 4095) ≤ 5 * (5 * 4095) = mul-le (2 * radius + 1) ((2 * radius + 1) * 4095) 5 (5 * 4095) n l in
     omega (arith, all)
 
--- what the cells of a pass stand for
+-- the weight and the mean in cells are the weight and the mean of the definition
 pub record Cells (bd set radius : ℕ) (f : Table) (g : Guide) (cells squares : List ℕ) (step at x y : ℕ) : Type 0 where
   pub weight : cell_weight g cells squares step at ≡ own_weight bd radius (strength set radius) f (x + radius) (y + radius)
   pub mean : cell_mean g cells squares step at ≡ mean_part bd radius (strength set radius) f (x + radius) (y + radius)
 
--- the weight and the mean in cells are those of the definition
+-- the weight and the mean from cells are the weight and the mean of the definition
 pub cells_made : (bd set radius : ℕ) (f : Table) (g : Guide) (cells squares : List ℕ) (step cols rows at x y : ℕ) → IsDepth bd → (radius ≡ 1) ⊎ (radius ≡ 2) → IsGuidePass bd set radius g →
     HasCornerSums f step cols rows cells → HasCornerSums (squared f) step cols rows squares → ((i j : ℕ) → i < cols → j < rows → f i j < 2 ^ bd) →
     at ≡ y * step + x → x + box_side radius ≤ cols → y + box_side radius ≤ rows → Cells bd set radius f g cells squares step at x y

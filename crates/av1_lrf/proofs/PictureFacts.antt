@@ -24,7 +24,7 @@ origin_bound p =
     let rows : p.cfg.yorigin * p.cfg.stride ≤ p.cfg.alloc_height * p.cfg.stride = mul-le p.cfg.yorigin p.cfg.stride p.cfg.alloc_height p.cfg.stride (omega (arith, p.high)) (omega arith) in
     omega (arith, p.stored)
 
--- a picture has a shape
+-- a plane with a picture in a range has the picture's shape
 pub shape_of : {X : Type 0} → (number : X → ℤ) (bound width height : ℕ) (p : Plane X) → HasStripePicture number bound width height p → HasShape width height p
 shape_of number bound width height p h = record { some_width = h.some_width; some_height = h.some_height; wide = h.wide; high = h.high; small_width = h.small_width; small_height = h.small_height }
 
@@ -32,7 +32,7 @@ shape_of number bound width height p h = record { some_width = h.some_width; som
 pub look_of : {X : Type 0} → (number : X → ℤ) (e : Extent) (p d : Plane X) → CanReadStripe number e p d → CanLook e p d
 look_of number e p d h = record { enhanced = shape_of number 32768 e.width e.height p h.enhanced; deblocked = shape_of number 32768 e.width e.height d h.deblocked; start = omega (arith, h.start); stop = omega (arith, h.stop); near = h.near }
 
--- numbers below a bound are below a greater one
+-- a picture below a bound is below every greater bound
 pub picture_below : {X : Type 0} → (number : X → ℤ) (a b width height : ℕ) (p : Plane X) → a ≤ b → HasStripePicture number a width height p → HasStripePicture number b width height p
 picture_below number a b width height p l h = record {
   some_width = h.some_width;
@@ -44,7 +44,7 @@ picture_below number a b width height p l h = record {
   range = λ x y lx ly. let r = h.range x y lx ly in (r.0, grind (arith, ints, r.1));
 }
 
--- a filter whose results are below a bound
+-- a filter whose results are below a bound has them below every greater bound
 pub filter_below : (a b : ℕ) (f : Filter) → a ≤ b → IsTapFilter a f → IsTapFilter b f
 filter_below a b f l h = record { across = h.across; across_limits = h.across_limits; down = h.down; down_limits = h.down_limits; low = h.low; order = h.order; high = grind (arith, ints, h.high) }
 

@@ -6,17 +6,17 @@ use Rattle.std.proofs.lemmas.Int.{ints, unsigned_abs-mul, fits_signed_from_abs}
 use Rattle.av1_lrf.specs.Sums.{limited}
 use Rattle.av1_lrf.specs.Taps.{IsWithinBound}
 
--- the distance from 0 of a bounded number
+-- the size of a bounded number is at most the bound
 pub near_abs : (m : ℕ) (v : ℤ) → IsWithinBound m v → unsigned_abs v ≤ m
 near_abs m (pos n) h = grind (arith, ints, h.high)
 near_abs m (negsuc n) h = grind (arith, ints, h.low)
 
--- a number by its distance from 0
+-- a number whose size is at most a bound is bounded
 pub abs_near : (m : ℕ) (v : ℤ) → unsigned_abs v ≤ m → IsWithinBound m v
 abs_near m (pos n) h = record { low = grind (arith, ints); high = grind (arith, ints) }
 abs_near m (negsuc n) h = record { low = grind (arith, ints); high = grind (arith, ints) }
 
--- a product of bounded numbers
+-- a product of bounded numbers is bounded by the product of the bounds
 pub near_product : (m n : ℕ) (a b : ℤ) → IsWithinBound m a → IsWithinBound n b → IsWithinBound (m * n) (a *ℤ b)
 near_product m n a b p q =
     let l : unsigned_abs a ≤ m = near_abs m a p in
@@ -24,7 +24,7 @@ near_product m n a b p q =
     let all : unsigned_abs a * unsigned_abs b ≤ m * n = mul-le (unsigned_abs a) (unsigned_abs b) m n l r in
     abs_near (m * n) (a *ℤ b) (omega (arith, unsigned_abs-mul a b))
 
--- a sum of bounded numbers
+-- a sum of bounded numbers is bounded by the sum of the bounds
 pub near_sum : (m n : ℕ) (a b : ℤ) → IsWithinBound m a → IsWithinBound n b → IsWithinBound (m + n) (a +ℤ b)
 near_sum m n a b p q = record { low = grind (arith, ints, p.low, q.low); high = grind (arith, ints, p.high, q.high) }
 
@@ -32,11 +32,11 @@ near_sum m n a b p q = record { low = grind (arith, ints, p.low, q.low); high = 
 pub near_fits : (m : ℕ) (v : ℤ) → IsWithinBound m v → m < 2147483648 → FitsSigned w32 v
 near_fits m v h l = fits_signed_from_abs w32 v (omega (arith, near_abs m v h))
 
--- a number below a greater bound
+-- a bounded number is bounded by every greater bound
 pub near_more : (m n : ℕ) (v : ℤ) → m ≤ n → IsWithinBound m v → IsWithinBound n v
 near_more m n v l h = record { low = grind (arith, ints, h.low); high = grind (arith, ints, h.high) }
 
--- the partial sums of three products
+-- three products and their partial sums fit 32 bits
 pub record ThreeSums (p q r : ℤ) : Type 0 where
   pub one : FitsSigned w32 (p +ℤ q)
   pub two : FitsSigned w32 (p +ℤ q +ℤ r)
@@ -78,7 +78,7 @@ seven_sums p0 p1 p2 p3 p4 p5 p6 h0 h1 h2 h3 h4 h5 h6 =
       near = near_more 58720256 1283457024 _ (omega arith) n6;
     }
 
--- 0 before a sum
+-- adding 0 before a number gives the number
 pub no_first : (v : ℤ) → pos 0 +ℤ v ≡ v
 no_first v = omega (arith, ints)
 
@@ -86,7 +86,7 @@ no_first v = omega (arith, ints)
 pub near_16 : (v : ℤ) → FitsSigned w16 v → IsWithinBound 32768 v
 near_16 v h = record { low = grind (arith, ints, h); high = grind (arith, ints, h) }
 
--- a number between bounded limits
+-- a number that is limited between bounded limits is bounded
 pub limited_near : (m : ℕ) (low high v : ℤ) → IsWithinBound m low → IsWithinBound m high → IsWithinBound m (limited low high v)
 limited_near m low high v p q = record { low = grind (arith, ints, p.low, p.high, q.low, q.high); high = grind (arith, ints, p.low, p.high, q.low, q.high) }
 
@@ -98,6 +98,6 @@ near_fits_16 v h = fits_signed_from_abs w16 v (omega (arith, near_abs 32767 v h)
 pub limited_low : (low high v : ℤ) → low ≤ℤ limited low high v
 limited_low low high v = grind (arith, ints)
 
--- nor higher than the other limit
+-- a limited number is at most its upper limit
 pub limited_high : (low high v : ℤ) → low ≤ℤ high → limited low high v ≤ℤ high
 limited_high low high v h = grind (arith, ints)

@@ -23,7 +23,7 @@ row_long p width y w h =
     let run : length (take (p.cfg.stride - p.cfg.xorigin) rest) ≡ p.cfg.stride - p.cfg.xorigin = length-take-le (p.cfg.stride - p.cfg.xorigin) rest (omega (arith, p.wide)) in
     length-take-le width (take (p.cfg.stride - p.cfg.xorigin) rest) (omega (arith, p.wide))
 
--- its samples are those of the picture
+-- the samples of a visible row are the picture's samples
 pub row_numbers : {X : Type 0} → (number : X → ℤ) (p : Plane X) (width height y : ℕ) → width ≤ p.cfg.width → (x : ℕ) → x < width → get_or (map number (take width (row_rest p.cfg p.samples.items (p.cfg.yorigin + y) p.cfg.xorigin))) x (pos 0) ≡ pixel (picture_of number width height p) x y
 row_numbers number p width height y w x l =
     let k = (p.cfg.yorigin + y) * p.cfg.stride + p.cfg.xorigin in
@@ -35,7 +35,7 @@ row_numbers number p width height y w x l =
     ∙ get_or-drop k (map number p.samples.items) x (pos 0)
     ∙ ap (λ i. get_or (map number p.samples.items) i (pos 0)) same
 
--- and are in the picture's range
+-- the samples of a visible row are in the picture's range
 pub row_below : {X : Type 0} → (number : X → ℤ) (p : Plane X) (bound width height y : ℕ) → HasStripePicture number bound width height p → y < height → Below bound (map number (take width (row_rest p.cfg p.samples.items (p.cfg.yorigin + y) p.cfg.xorigin)))
 row_below number p bound width height y h l =
     let row = take width (row_rest p.cfg p.samples.items (p.cfg.yorigin + y) p.cfg.xorigin) in

@@ -7,11 +7,11 @@ use Rattle.av1_plane.specs.Numbers.{InDepth, Below}
 use Rattle.av1_lrf.specs.Rows.{nearest_in_stripe}
 use Rattle.av1_lrf.specs.Runs.{HasSampleRun}
 
--- a run of no numbers
+-- a run of no numbers changes nothing
 pub run_none : (at : ℕ) (f : ℕ → ℤ) (xs : List ℤ) → HasSampleRun at 0 f xs xs
 run_none at f xs = record { on = λ i l. absurd (omega arith); off = λ k h. refl; long = refl }
 
--- one number more
+-- one number more of a run is written
 pub run_more : (at i : ℕ) (f : ℕ → ℤ) (xs ys : List ℤ) (v : ℤ) → at + i < length ys → v ≡ f i → HasSampleRun at i f xs ys → HasSampleRun at (i + 1) f xs (set ys (at + i) v)
 run_more at i f xs ys v l e h = record { on = on; off = off; long = length-set ys (at + i) v ∙ h.long }
   where
@@ -31,7 +31,7 @@ run_more at i f xs ys v l e h = record { on = on; off = off; long = length-set y
     off : (k : ℕ) → ((j : ℕ) → j < i + 1 → k ≢ at + j) → get_or (set ys (at + i) v) k (pos 0) ≡ get_or xs k (pos 0)
     off k n = other k (n i (omega arith)) ∙ h.off k (λ j lj. n j (omega arith))
 
--- a run of as many numbers
+-- a run of as many numbers is the run
 pub run_size : (at m n : ℕ) (f : ℕ → ℤ) (xs ys : List ℤ) → m ≡ n → HasSampleRun at m f xs ys → HasSampleRun at n f xs ys
 run_size at m n f xs ys e h = subst (λ k. HasSampleRun at k f xs ys) e h
 

@@ -1,4 +1,4 @@
--- A table that is a part of another one is guided as that one.
+-- A table that is a part of another table is guided as the other one.
 use Rattle.std.proofs.Common.{◌≡◌, ℕ, ℤ, zero, suc, pos, ◌+◌, ◌-◌, ◌*◌, ◌^◌, ◌<◌, ◌≤◌, Bool, List, refl, sym, subst, ◌∙◌, ap, arith, min, max}
 use Rattle.std.specs.Prelude.{unsigned_abs, ◌==◌, if◌then◌else◌, ◌+ℤ◌, ◌-ℤ◌, ◌*ℤ◌}
 use Rattle.std.proofs.lemmas.Nat.{mul-le}
@@ -31,18 +31,18 @@ box_shift f g n r x0 y0 x y e lx ly = box_same f g n (x - r) (y - r) (x0 + x - r
     let ey : y0 + (y - r + j) ≡ y0 + y - r + j = omega arith in
     e (x - r + i) (y - r + j) ∙ ap (λ (k : ℕ). g k (y0 + (y - r + j))) ex ∙ ap (λ (k : ℕ). g (x0 + x - r + i) k) ey)
 
--- and of the squares
+-- the squares of a part are the part of the squares
 squared_shift : (f g : Table) (x0 y0 : ℕ) → ((i j : ℕ) → f i j ≡ g (x0 + i) (y0 + j)) → (i j : ℕ) → squared f i j ≡ squared g (x0 + i) (y0 + j)
 squared_shift f g x0 y0 e i j = ap (λ (k : ℕ). k * k) (e i j)
 
--- the weight in a part of a table
+-- the weight in a part of a table is the weight in the table
 own_shift : (bd r s : ℕ) (f g : Table) (x0 y0 x y : ℕ) → ((i j : ℕ) → f i j ≡ g (x0 + i) (y0 + j)) → r ≤ x → r ≤ y → own_weight bd r s f x y ≡ own_weight bd r s g (x0 + x) (y0 + y)
 unfolding own_weight
 own_shift bd r s f g x0 y0 x y e lx ly =
     ap (λ (k : ℕ). weight (variation bd (count r) k (box (squared f) (box_side r) (x - r) (y - r))) s) (box_shift f g (box_side r) r x0 y0 x y e lx ly)
     ∙ ap (λ (k : ℕ). weight (variation bd (count r) (box g (box_side r) (x0 + x - r) (y0 + y - r)) k) s) (box_shift (squared f) (squared g) (box_side r) r x0 y0 x y (squared_shift f g x0 y0 e) lx ly)
 
--- the mean in a part of a table
+-- the mean in a part of a table is the mean in the table
 mean_shift : (bd r s : ℕ) (f g : Table) (x0 y0 x y : ℕ) → ((i j : ℕ) → f i j ≡ g (x0 + i) (y0 + j)) → r ≤ x → r ≤ y → mean_part bd r s f x y ≡ mean_part bd r s g (x0 + x) (y0 + y)
 unfolding mean_part
 mean_shift bd r s f g x0 y0 x y e lx ly =
@@ -69,7 +69,7 @@ around_shift radius odd g h x0 y0 x y e lx ly =
     let c9 : g (x + 1) (y + 1) ≡ h (x0 + x + 1) (y0 + y + 1) = at _ _ _ _ (omega arith) (omega arith) xr yr in
     rw (c1, c2, c3, c4, c5, c6, c7, c8, c9) refl
 
--- a pass in a part of a table
+-- a pass in a part of a table is the pass in the table
 pass_shift : (bd set radius : ℕ) (odd : Bool) (f g : Table) (v x0 y0 x y : ℕ) → ((i j : ℕ) → f i j ≡ g (x0 + i) (y0 + j)) → radius ≤ 2 → 3 ≤ x → 3 ≤ y → pass bd set radius odd f v x y ≡ pass bd set radius odd g v (x0 + x) (y0 + y)
 unfolding pass
 pass_shift bd set radius odd f g v x0 y0 x y e l lx ly =
@@ -79,7 +79,7 @@ pass_shift bd set radius odd f g v x0 y0 x y e l lx ly =
     ap (λ (k : ℕ). if s == 0 then v * 16 else rounded_shift (k * v + around radius odd (mean_part bd radius s f) x y) (8 + around_bits radius odd - 4)) a
     ∙ ap (λ (k : ℕ). if s == 0 then v * 16 else rounded_shift (around radius odd (own_weight bd radius s g) (x0 + x) (y0 + y) * v + k) (8 + around_bits radius odd - 4)) b
 
--- a sample that is guided by a part of a table
+-- a sample that is guided by a part of a table is the one that the table guides
 pub guided_shift : (bd set : ℕ) (xqd : List ℤ) (odd : Bool) (f g : Table) (v x0 y0 x y : ℕ) → ((i j : ℕ) → f i j ≡ g (x0 + i) (y0 + j)) → 3 ≤ x → 3 ≤ y → guided bd set xqd odd f v x y ≡ guided bd set xqd odd g v (x0 + x) (y0 + y)
 unfolding guided
 guided_shift bd set xqd odd f g v x0 y0 x y e lx ly =
@@ -89,7 +89,7 @@ guided_shift bd set xqd odd f g v x0 y0 x y e lx ly =
     ap (λ (k : ℕ). limited (pos 0) (pos (2 ^ bd - 1)) (round2 (w0 *ℤ pos k +ℤ w1 *ℤ pos (v * 16) +ℤ w2 *ℤ pos (pass bd set 1 odd f v x y)) 11)) (pass_shift bd set 2 odd f g v x0 y0 x y e (omega arith) lx ly)
     ∙ ap (λ (k : ℕ). limited (pos 0) (pos (2 ^ bd - 1)) (round2 (w0 *ℤ pos (pass bd set 2 odd g v (x0 + x) (y0 + y)) +ℤ w1 *ℤ pos (v * 16) +ℤ w2 *ℤ pos k) 11)) (pass_shift bd set 1 odd f g v x0 y0 x y e (omega arith) lx ly)
 
--- where a place of a part stands
+-- the place of a column and row of a part in the list of the whole
 pub part_place : (origin step x0 y0 x y : ℕ) → x0 ≤ x → y0 ≤ y → origin + y0 * step + x0 + (y - y0) * step + (x - x0) ≡ origin + y * step + x
 part_place origin step x0 y0 x y lx ly =
     let e : y ≡ y0 + (y - y0) = omega arith in
@@ -97,7 +97,7 @@ part_place origin step x0 y0 x y lx ly =
     let rows : y * step ≡ y0 * step + (y - y0) * step = ap (λ (k : ℕ). k * step) e ∙ d in
     omega arith
 
--- an area by the places of its part
+-- an area that is written by the places of its part is written
 pub area_shift : (origin step x0 y0 w h : ℕ) (f g : ℕ → ℕ → ℤ) (a b : List ℤ) → ((x y : ℕ) → x0 ≤ x → x < x0 + w → y0 ≤ y → y < y0 + h → f (x - x0) (y - y0) ≡ g x y) → HasArea (origin + y0 * step + x0) step 0 w 0 h f a b → HasArea origin step x0 (x0 + w) y0 (y0 + h) g a b
 area_shift origin step x0 y0 w h f g a b e area = record {
   on = λ x y lx hx ly hy. ap (λ (i : ℕ). sample b i) (sym (part_place origin step x0 y0 x y lx ly)) ∙ area.on (x - x0) (y - y0) (omega arith) (omega arith) (omega arith) (omega arith) ∙ e x y lx hx ly hy;
@@ -109,7 +109,7 @@ area_shift origin step x0 y0 w h f g a b e area = record {
   long = area.long;
 }
 
--- a part of a room
+-- a part of rows that lie in a list lies in the list
 pub part_room : (origin step width height n x0 y0 w h : ℕ) → HasRowRoom origin step width height n → x0 + w ≤ width → y0 + h ≤ height → HasRowRoom (origin + y0 * step + x0) step w h n
 part_room origin step width height n x0 y0 w h room lx ly =
     let rows : (y0 + h) * step ≤ height * step = mul-le (y0 + h) step height step ly (omega arith) in
@@ -133,7 +133,7 @@ source_below number bound width height start stop p d x y hp hd l =
     subst (λ (v : ℤ). unsigned_abs v < bound) (below_row s (nearest_in_stripe width x) (nearest_in_stripe height y) _ _ refl m n refl) (small _ (hd.range (nearest_in_stripe width x) (min (nearest_in_stripe height y) (stop + 1)) la (omega arith))) in
     grind (arith, nat_tests)
 
--- cells for 71 rows
+-- cells for 71 rows hold the prefix sums of a part of 64 rows
 pub cells_room : (h w pitch n : ℕ) → h ≤ 64 → w + 7 ≤ pitch → 71 * pitch ≤ n → (h + 6) * pitch + (w + 6) < n
 cells_room h w pitch n lh lw ln =
     let rows : (h + 6) * pitch ≤ 70 * pitch = mul-le (h + 6) pitch 70 pitch (omega arith) (omega arith) in

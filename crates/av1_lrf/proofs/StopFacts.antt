@@ -17,6 +17,7 @@ row_stop number w h start a b e d x n l same =
     let outside : a ≤ n → b ≤ n = λ m. omega arith in
     grind (arith, nat_tests)
 
+-- A stripe reads as it does when its end is cut to the picture.
 source_stop : {X : Type 0} → (number : X → ℤ) (w h start a b : ℕ) (e d : Plane X) (x y : ℕ) → 0 < h → min a h ≡ min b h → stripe_source (scene_in number w h start a e d) x y ≡ stripe_source (scene_in number w h start b e d) x y
 source_stop number w h start a b e d x y some same = row_stop number w h start a b e d (nearest_in_stripe w x) (nearest_in_stripe h y) (omega arith) same
 
@@ -25,10 +26,11 @@ across_same : (r : Rounding) (ts : List ℤ) (s t : Scene) (x y : ℕ) → ((i j
 unfolding wiener_across
 across_same r ts s t x y h = across_made r ts t x y (λ i. stripe_source s (x + i) y) (λ k l. h (x + k) y)
 
+-- A filter gives equal results on stripes that read equally.
 down_same : (ra : Rounding) (ta : List ℤ) (rd : Rounding) (td : List ℤ) (s t : Scene) (x y : ℕ) → ((i j : ℕ) → stripe_source s i j ≡ stripe_source t i j) → down ra ta rd td s x y ≡ down ra ta rd td t x y
 unfolding down
 down_same ra ta rd td s t x y h = down_made ra ta rd td t x y (λ j. wiener_across ra ta s x (y + j)) (λ k l. across_same ra ta s t x (y + k) h)
 
--- a sample by the Wiener filter
+-- a sample by the Wiener filter doesn't depend on where a stripe ends below the picture
 pub wiener_stop : {X : Type 0} → (number : X → ℤ) (bd : ℕ) (coeffs : List (List ℤ)) (w h start a b : ℕ) (e d : Plane X) (x y : ℕ) → 0 < h → min a h ≡ min b h → wiener bd coeffs (scene_in number w h start a e d) x y ≡ wiener bd coeffs (scene_in number w h start b e d) x y
 wiener_stop number bd coeffs w h start a b e d x y some same = down_same (across_rounding bd) (taps (across_coeffs coeffs)) (down_rounding bd) (taps (down_coeffs coeffs)) (scene_in number w h start a e d) (scene_in number w h start b e d) x y (λ i j. source_stop number w h start a b e d i j some same)

@@ -13,7 +13,7 @@ units_row row rows cols n l e =
     let all : (row + 1) * cols ≤ rows * cols = mul-le (row + 1) cols rows cols (omega arith) (omega arith) in
     omega arith
 
--- the stripe of a row between two edges
+-- a row between the edges of stripe k lies in stripe k
 pub stripe_at : (height offset k y : ℕ) → 0 < height → k * height - offset ≤ y → y < (k + 1) * height - offset → (y + offset) / height ≡ k
 stripe_at height offset k y some low high =
     let more : (k + 1) * height ≡ k * height + height = grind arith in
@@ -37,14 +37,14 @@ stripe_inside height offset bottom k some b o l =
     let most : k * height ≤ bottom + offset - 1 = (le-div_iff_mul-le {k = height} {x = k} {y = bottom + offset - 1} some).0 (omega arith) in
     omega arith
 
--- and its number is a small one
+-- the number of a stripe fits 32 bits
 pub stripe_few : (height bottom k : ℕ) → 0 < height → bottom ≤ 131072 → k * height < bottom → k < 2 ^ 32
 stripe_few height bottom k some small l =
     let less : k * 1 ≤ k * height = mul-le k 1 k height (omega arith) (omega arith) in
     let far : 131072 ≤ 2 ^ 32 = lit≤ tt in
     omega arith
 
--- the last one ends where the picture does
+-- the last stripe ends where the picture does
 pub stripe_last : (height offset bottom n : ℕ) → 0 < height → 0 < bottom → (bottom + offset - 1) / height + 1 ≤ n → row_edge height offset bottom n ≡ bottom
 stripe_last height offset bottom n some b l =
     let less : n * height ≤ bottom + offset - 1 → n ≤ (bottom + offset - 1) / height = (le-div_iff_mul-le {k = height} {x = n} {y = bottom + offset - 1} some).1 in

@@ -16,12 +16,12 @@ edge_inside n size width u l h =
     let all : u * size ≤ (n - 1) * size = mul-le u size (n - 1) size (omega arith) (omega arith) in
     omega arith
 
--- the first one begins at 0
+-- the first unit begins at column 0
 pub edge_first : (n size width : ℕ) → 0 < n → 0 ≡ edge n size width 0
 unfolding edge
 edge_first n size width l = grind (arith, nat_tests)
 
--- the last one ends where the picture does
+-- the last unit ends where the picture does
 pub edge_last : (n size width u : ℕ) → n ≤ u → edge n size width u ≡ width
 unfolding edge
 edge_last n size width u l = grind (arith, nat_tests)

@@ -11,11 +11,11 @@ use Rattle.av1_lrf.specs.Laws.{ZeroWienerIsSame}
 abbrev zero_taps : List ℤ
 zero_taps = taps (pos 0 ∷ pos 0 ∷ pos 0 ∷ [])
 
--- only the middle tap is left
+-- a sum by the taps of coefficients 0 has the middle sample alone
 zero_tapped : (f : ℕ → ℤ) → tapped zero_taps f ≡ pos 128 *ℤ f 3
 zero_tapped f = omega (arith, ints)
 
--- in the stripe the middle sample is the enhanced one
+-- inside a stripe the middle sample is the enhanced one
 middle : (s : Scene) (x y : ℕ) → x < s.enhanced.width → y < s.enhanced.height → s.stripe.start ≤ y → y < s.stripe.stop → stripe_source s (x + 3) (y + 3) ≡ pixel s.enhanced x y
 unfolding in_stripe
 middle s x y lx ly l m =
@@ -24,22 +24,22 @@ middle s x y lx ly l m =
     let inside : in_stripe s x y ≡ pixel s.enhanced x y = grind (arith, nat_tests) in
     ap (λ (i : ℕ). in_stripe s i (nearest_in_stripe s.enhanced.height (y + 3))) col ∙ ap (λ (j : ℕ). in_stripe s x j) row ∙ inside
 
--- both sums of a sample
+-- a sample of 8 bits is left as it is by the middle taps across and down
 both_8 : (v : ℤ) → InDepth 256 v → reduced (down_rounding 8) (pos 128 *ℤ reduced (across_rounding 8) (pos 128 *ℤ v)) ≡ v
 both_8 (pos n) h = grind (arith, ints, nat_tests, h.1)
 both_8 (negsuc n) h = grind (arith, ints, h.0)
 
--- at 10 bits
+-- a sample of 10 bits is left as it is by the middle taps across and down
 both_10 : (v : ℤ) → InDepth 1024 v → reduced (down_rounding 10) (pos 128 *ℤ reduced (across_rounding 10) (pos 128 *ℤ v)) ≡ v
 both_10 (pos n) h = grind (arith, ints, nat_tests, h.1)
 both_10 (negsuc n) h = grind (arith, ints, h.0)
 
--- at 12 bits
+-- a sample of 12 bits is left as it is by the middle taps across and down
 both_12 : (v : ℤ) → InDepth 4096 v → reduced (down_rounding 12) (pos 128 *ℤ reduced (across_rounding 12) (pos 128 *ℤ v)) ≡ v
 both_12 (pos n) h = grind (arith, ints, nat_tests, h.1)
 both_12 (negsuc n) h = grind (arith, ints, h.0)
 
--- at each depth
+-- a sample of any depth is left as it is by the middle taps across and down
 both : (bd : ℕ) (v : ℤ) → IsDepth bd → InDepth (2 ^ bd) v → reduced (down_rounding bd) (pos 128 *ℤ reduced (across_rounding bd) (pos 128 *ℤ v)) ≡ v
 both bd v h i = elim h [
   | inl e ↦ at 8 e (λ j. both_8 v j)
@@ -49,7 +49,7 @@ both bd v h i = elim h [
     at : (d : ℕ) → bd ≡ d → (InDepth (2 ^ d) v → reduced (down_rounding d) (pos 128 *ℤ reduced (across_rounding d) (pos 128 *ℤ v)) ≡ v) → reduced (down_rounding bd) (pos 128 *ℤ reduced (across_rounding bd) (pos 128 *ℤ v)) ≡ v
     at d e f = subst (λ (b : ℕ). reduced (down_rounding b) (pos 128 *ℤ reduced (across_rounding b) (pos 128 *ℤ v)) ≡ v) (sym e) (f (subst (λ (b : ℕ). InDepth (2 ^ b) v) e i))
 
--- the law on coefficients that are 0
+-- a Wiener filter with coefficients 0 leaves each sample as it is
 pub zero_wiener_is_same : ZeroWienerIsSame
 unfolding down wiener_across
 zero_wiener_is_same bd s x y h lx ly l m r =

@@ -18,22 +18,22 @@ pub record CanRestore {X : Type 0} (number : X → ℤ) (bd pitch w h : ℕ) (u 
   pub enhanced : HasStripePicture number (2 ^ bd) (visible w p.cfg.xdec) (visible h p.cfg.ydec) p
   pub deblocked : HasStripePicture number (2 ^ bd) (visible w p.cfg.xdec) (visible h p.cfg.ydec) d
 
--- how such a plane is restored
+-- how a plane p of a frame is restored
 abbrev pub settings_in : {X : Type 0} → Bool → ℕ → Units → Plane X → PlaneSettings
 settings_in cdef bd u p = record { units = u; cdef = cdef; bit_depth = bd; ydec = p.cfg.ydec }
 
--- q is p restored
+-- q is the plane p restored, d being the deblocked one
 pub record IsRestoredPlane {X : Type 0} (number : X → ℤ) (cdef : Bool) (bd w h : ℕ) (u : Units) (d p q : Plane X) : Type 0 where
   pub cfg : q.cfg ≡ p.cfg
   pub samples : IsRestored (settings_in cdef bd u p) (picture_of number (visible w p.cfg.xdec) (visible h p.cfg.ydec) d) (picture_of number (visible w p.cfg.xdec) (visible h p.cfg.ydec) p) (plane_numbers number q)
 
--- the first `planes` planes can be restored
+-- the first `planes` planes of f can be restored
 pub record CanRestoreFrame {X : Type 0} (number : X → ℤ) (bd pitch w h planes : ℕ) (s : Three Units) (d f : Frame X) : Type 0 where
   pub y : CanRestore number bd pitch w h s.y d.planes.y f.planes.y
   pub u : 1 < planes → CanRestore number bd pitch w h s.u d.planes.u f.planes.u
   pub v : 1 < planes → CanRestore number bd pitch w h s.v d.planes.v f.planes.v
 
--- the first `planes` planes of g are those of f restored, and the others stay
+-- the first `planes` planes of g are f's, restored; the others are f's
 pub record IsRestoredFrame {X : Type 0} (number : X → ℤ) (cdef : Bool) (bd w h planes : ℕ) (s : Three Units) (d f g : Frame X) : Type 0 where
   pub y : IsRestoredPlane number cdef bd w h s.y d.planes.y f.planes.y g.planes.y
   pub u : 1 < planes → IsRestoredPlane number cdef bd w h s.u d.planes.u f.planes.u g.planes.u

@@ -13,15 +13,15 @@ use Rattle.av1_lrf.specs.Rows.{sample}
 abbrev pub Table : Type 0
 Table = ℕ → ℕ → ℕ
 
--- the number of a set for the pass of a radius; 0 leaves the pass out
+-- the strength of a set for the pass of a radius; 0 leaves the pass out
 abbrev pub strength : ℕ → ℕ → ℕ
 strength set radius = slice_index_or (slice_index_or SGRPROJ_PARAMS_S set []) (if radius == 2 then 0 else 1) 0
 
--- how many samples the square of a radius has, and 2 ^ 12 divided by that number
+-- the side of the square of a radius
 abbrev pub box_side : ℕ → ℕ
 box_side radius = 2 * radius + 1
 
--- how many samples that square has
+-- how many samples the square of a radius has
 abbrev pub count : ℕ → ℕ
 count radius = box_side radius * box_side radius
 
@@ -50,21 +50,21 @@ weight p s =
     let z = rounded_shift (p * s) 20 in
     if nat_le 255 z then 256 else if z == 0 then 1 else (z * 256 + z / 2) / (z + 1)
 
--- the rest of the weight, times the mean
+-- the part that the mean has in a sample, by the weight of the sample itself
 abbrev pub weighted_mean : ℕ → ℕ → ℕ → ℕ
 weighted_mean n w sum = rounded_shift ((256 - w) * sum * one_by n) 12
 
--- both for the square of a radius round column x of row y
+-- the weight of the sample itself for the square of a radius round column x of row y
 unfoldable pub own_weight : ℕ → ℕ → ℕ → Table → Table
 own_weight bd radius s f x y =
     let n = box_side radius in
     weight (variation bd (count radius) (box f n (x - radius) (y - radius)) (box (squared f) n (x - radius) (y - radius))) s
 
--- the weighted mean of the square round column x of row y
+-- the weighted mean for the square of a radius round column x of row y
 unfoldable pub mean_part : ℕ → ℕ → ℕ → Table → Table
 mean_part bd radius s f x y = weighted_mean (count radius) (own_weight bd radius s f x y) (box f (box_side radius) (x - radius) (y - radius))
 
--- 6 times the middle and 5 times both sides
+-- 6 times the middle of three and 5 times both sides
 abbrev pub row_sum : Table → Table
 row_sum g x y = 5 * g (x - 1) y + 6 * g x y + 5 * g (x + 1) y
 
@@ -82,7 +82,7 @@ around radius odd g x y =
     if radius == 2 then (if odd then row_sum g x y else row_sum g x (y - 1) + row_sum g x (y + 1))
     else cross_sum g x y
 
--- the bits of these weights together: 16 or 32
+-- the logarithm of the sum of the weights round a sample, which is 32 or 16
 abbrev pub around_bits : ℕ → Bool → ℕ
 around_bits radius odd = if radius == 2 then (if odd then 4 else 5) else 5
 

@@ -24,7 +24,7 @@ rounded_32 v n = (v + 2 ^ n / 2) % 2 ^ 32 / 2 ^ n
 abbrev pub weight_at : ℕ → ℕ
 weight_at z = if nat_le 255 z then 256 else if z == 0 then 1 else (z * 256 + z / 2) / (z + 1)
 
--- this product, at most 255, by the sum over a square and the sum of the squares
+-- the rounded product of variation and strength, at most 255, by a square's sum and its sum of squares
 unfoldable pub index_by : Guide → ℕ → ℕ → ℕ
 index_by g sum squares =
     min (rounded_32 (((rounded_32 squares (2 * g.shift) * g.count) % 2 ^ 32 - (rounded_32 sum g.shift * rounded_32 sum g.shift) % 2 ^ 32) * g.strength % 2 ^ 32) 20) 255
@@ -33,7 +33,7 @@ index_by g sum squares =
 unfoldable pub mean_by : ℕ → ℕ → ℕ → ℕ
 mean_by one_by w sum = rounded_32 (((256 - w) * sum) % 2 ^ 32 * one_by % 2 ^ 32) 12
 
--- the weight and the mean for the square whose first corner is a cell
+-- the weight for the square whose first corner is a cell
 abbrev pub cell_weight : Guide → List ℕ → List ℕ → ℕ → ℕ → ℕ
 cell_weight g cells squares step at = weight_at (index_by g (cell_box cells at step g.side) (cell_box squares at step g.side))
 
@@ -41,16 +41,16 @@ cell_weight g cells squares step at = weight_at (index_by g (cell_box cells at s
 abbrev pub cell_mean : Guide → List ℕ → List ℕ → ℕ → ℕ → ℕ
 cell_mean g cells squares step at = mean_by g.one_by (cell_weight g cells squares step at) (cell_box cells at step g.side)
 
--- a pass of small numbers
+-- the numbers of a pass are small enough for 32 bits
 pub record IsGuide (g : Guide) : Type 0 where
   pub shift : g.shift ≤ 4
   pub side : g.side ≤ 5
 
--- all cells are at most m
+-- each cell is at most m
 pub record AtMost (m : ℕ) (cells : List ℕ) : Type 0 where
   pub each : (i : ℕ) → cell cells i ≤ m
 
--- the first n columns of the first m rows of 66 cells are as given
+-- the first n columns of the first m rows of 66 cells have these values
 pub record HasGuides (n m : ℕ) (value : ℕ → ℕ → ℕ) (cells : List ℕ) : Type 0 where
   pub each : (i k : ℕ) → i < n → k < m → cell cells (k * 66 + i) ≡ value i k
 
@@ -63,7 +63,7 @@ pub record AreWeights (weights : List ℕ) : Type 0 where
 unfoldable pub guide_line_at : List ℕ → ℕ → ℕ
 guide_line_at cells at = 5 * cell cells at + 6 * cell cells (at + 1) + 5 * cell cells (at + 2)
 
--- the sum of radius 2, from the cell above and left of an even row's, whose rows of cells lie together
+-- the sum of radius 2 from the cell above and left; an even row lies between two rows of cells
 unfoldable pub guide_wide_at : Bool → List ℕ → ℕ → ℕ
 guide_wide_at odd cells at = if odd then guide_line_at cells (at + 66) else guide_line_at cells at + guide_line_at cells (at + 66)
 
@@ -74,15 +74,15 @@ cross_at cells at =
     + (4 * cell cells (at + 66) + 4 * cell cells (at + 67) + 4 * cell cells (at + 68))
     + (3 * cell cells (at + 132) + 4 * cell cells (at + 133) + 3 * cell cells (at + 134))
 
--- the sample after a pass
+-- a sample after a pass
 unfoldable pub pass_result : ℕ → ℕ → ℕ → ℕ → ℕ → ℕ
 pass_result s a b v bits = if s == 0 then v * 16 else rounded_shift (a * v + b) bits
 
--- both passes and the sample, by their weights
+-- both passes and the sample, added by their weights
 unfoldable pub mixed : Mix → ℕ → ℕ → ℕ → ℤ
 mixed m f2 v f1 = reduced (rounding_of m.limits) (m.w0 *ℤ pos f2 +ℤ m.w1 *ℤ pos (v * 16) +ℤ m.w2 *ℤ pos f1)
 
--- weights and limits of small numbers
+-- the weights and limits of a mix are small enough for 32 bits
 pub record IsMix (m : Mix) : Type 0 where
   pub w0 : IsWithinBound 384 m.w0
   pub w1 : IsWithinBound 384 m.w1
@@ -91,12 +91,12 @@ pub record IsMix (m : Mix) : Type 0 where
   pub low : m.limits.low ≡ pos 0
   pub order : m.limits.low ≤ℤ m.limits.high
 
--- what is guided by the cells from these places on
+-- the guided sample, by the cells from these places on
 unfoldable pub guided_sample : Mix → Bool → List ℕ → List ℕ → List ℕ → List ℕ → ℕ → ℕ → ℕ → ℤ
 guided_sample m odd a2 b2 a1 b1 p q v =
     mixed m (pass_result m.strong (guide_wide_at odd a2 p) (guide_wide_at odd b2 p) v (if odd then 8 else 9)) v (pass_result m.weak (cross_at a1 q) (cross_at b1 q) v 9)
 
--- the pass of a radius, for a set
+-- g is the pass of a radius, for a set
 pub record IsGuidePass (bd set radius : ℕ) (g : Guide) : Type 0 where
   pub wide : g.side ≡ box_side radius
   pub many : g.count ≡ count radius
@@ -104,7 +104,7 @@ pub record IsGuidePass (bd set radius : ℕ) (g : Guide) : Type 0 where
   pub strong : g.strength ≡ strength set radius
   pub deep : g.shift ≡ bd - 8
 
--- the weights of a unit
+-- m has the weights of a unit
 pub record IsMixOf (bd set : ℕ) (xqd : List ℤ) (m : Mix) : Type 0 where
   pub strong : m.strong ≡ strength set 2
   pub weak : m.weak ≡ strength set 1
@@ -124,7 +124,7 @@ pub record IsPlanOf (bd set : ℕ) (xqd : List ℤ) (f : Table) (p : Plan) (step
   pub square_sums : HasCornerSums (squared f) step (width + 6) (height + 6) squares
   pub below : (x y : ℕ) → x < width + 6 → y < height + 6 → f x y < 2 ^ bd
 
--- a plan of small numbers
+-- the numbers of a plan are small enough for 32 bits
 pub record IsGuidedPlan (p : Plan) : Type 0 where
   pub two : IsGuide p.two
   pub one : IsGuide p.one

@@ -10,12 +10,12 @@ use Rattle.av1_plane.specs.Numbers.{InDepth}
 abbrev pub SquareBelow : ℕ → ℕ → Table → ℕ → ℕ → Type 0
 SquareBelow bd n f x y = (i j : ℕ) → i < n → j < n → f (x + i) (y + j) < 2 ^ bd
 
--- 32 bits hold what is computed for a square with sides of 2 * radius + 1
+-- 32 bits hold each number that is computed for a square with sides of 2 * radius + 1
 pub record Fits32 (bd radius set : ℕ) (f : Table) (x y : ℕ) : Type 0 where
   pub product : variation bd (count radius) (box f (box_side radius) x y) (box (squared f) (box_side radius) x y) * strength set radius + 2 ^ 19 < 2 ^ 32
   pub mean : (256 - weight (variation bd (count radius) (box f (box_side radius) x y) (box (squared f) (box_side radius) x y)) (strength set radius)) * box f (box_side radius) x y * one_by (count radius) + 2 ^ 11 < 2 ^ 32
 
--- what is computed of each square fits
+-- 32 bits hold each number that is computed for any square of samples
 abbrev pub EachBoxFits : Type 0
 EachBoxFits = (bd radius set : ℕ) (f : Table) (x y : ℕ) → IsDepth bd → (radius ≡ 1) ⊎ (radius ≡ 2) → SquareBelow bd (box_side radius) f x y → Fits32 bd radius set f x y
 
@@ -32,10 +32,10 @@ IsDirect f n x y =
 abbrev pub EachBoxIsDirect : Type 0
 EachBoxIsDirect = (bd radius : ℕ) (f : Table) (x y : ℕ) → IsDepth bd → (radius ≡ 1) ⊎ (radius ≡ 2) → SquareBelow bd (box_side radius) f x y → IsDirect f (box_side radius) x y × IsDirect (squared f) (box_side radius) x y
 
--- six coefficients of 0
+-- Wiener coefficients that are all 0
 abbrev pub zeros : List (List ℤ)
 zeros = (pos 0 ∷ pos 0 ∷ pos 0 ∷ []) ∷ (pos 0 ∷ pos 0 ∷ pos 0 ∷ []) ∷ []
 
--- coefficients that are 0 leave each sample as it is
+-- a Wiener filter with coefficients 0 leaves each sample as it is
 abbrev pub ZeroWienerIsSame : Type 0
 ZeroWienerIsSame = (bd : ℕ) (s : Scene) (x y : ℕ) → IsDepth bd → x < s.enhanced.width → y < s.enhanced.height → s.stripe.start ≤ y → y < s.stripe.stop → InDepth (2 ^ bd) (pixel s.enhanced x y) → wiener bd zeros s x y ≡ pixel s.enhanced x y

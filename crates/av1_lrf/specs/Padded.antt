@@ -7,16 +7,16 @@ use Rattle.av1_lrf.specs.declared.rows.Extent.{Extent}
 use Rattle.av1_lrf.specs.Rows.{nearest_in_stripe}
 use Rattle.av1_lrf.specs.Taps.{CanLook}
 
--- places count from so far before the row
+-- how many places before a row its places count from
 abbrev pub far : ℕ
 far = 2 ^ 33
 
--- n samples from a place on
+-- n samples of a row from a place on, past its ends the row's end samples
 unfoldable pub padded_row : {X : Type 0} → List X → ℕ → ℕ → List X
 padded_row row at zero = []
 padded_row row at (suc n) = take 1 (drop (min (at - far) (length row - 1)) row) ++ padded_row row (at + 1) n
 
--- the place of a signed position
+-- the place of a signed position in a row
 abbrev pub far_place : ℤ → ℕ
 far_place start = unsigned_abs (start +ℤ pos far)
 
@@ -33,7 +33,7 @@ stripe_row e d x y =
     else if nat_lt at x.stop then visible_row e x.width at
     else visible_row d x.width (min at (x.stop + 1))
 
--- n such rows from row y on
+-- n rows of a stripe from row y on
 unfoldable pub stripe_rows : {X : Type 0} → Plane X → Plane X → Extent → ℕ → ℕ → List (List X)
 stripe_rows e d x y zero = []
 stripe_rows e d x y (suc n) = stripe_row e d x y ∷ stripe_rows e d x (y + 1) n

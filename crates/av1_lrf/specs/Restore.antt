@@ -70,7 +70,7 @@ stored_sample p width height value place =
     let y = place / p.cfg.stride in
     if is_visible p.cfg width height x y then value (x - p.cfg.xorigin) (y - p.cfg.yorigin) else sample p.samples place
 
--- a plane with such a picture
+-- a plane with `value x y` at column x of row y of its picture
 unfoldable pub with_restored_picture : PlaneView → ℕ → ℕ → (ℕ → ℕ → ℤ) → PlaneView
 with_restored_picture p width height value =
     record p { samples = map (stored_sample p width height value) (range_with_len 0 (length p.samples)) }

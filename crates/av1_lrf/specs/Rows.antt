@@ -15,7 +15,7 @@ pub record Picture : Type 0 where
   pub width : ℕ
   pub height : ℕ
 
--- where column x of row y stands
+-- where column x of row y of a picture stands in its list
 abbrev pub stripe_place : Picture → ℕ → ℕ → ℕ
 stripe_place p x y = p.origin + y * p.step + x
 
@@ -28,11 +28,11 @@ pub record Stripe : Type 0 where
   pub start : ℕ
   pub stop : ℕ
 
--- Stripes are 64 luma rows high and lie 8 rows higher than the superblocks, the first one too.
+-- the height of a stripe in a plane; in luma it is 64 rows
 abbrev pub stripe_height : ℕ → ℕ
 stripe_height ydec = 64 / 2 ^ ydec
 
--- how much higher the stripes lie
+-- how many rows higher than the superblocks the stripes of a plane lie; in luma 8
 abbrev pub stripe_offset : ℕ → ℕ
 stripe_offset ydec = 8 / 2 ^ ydec
 
@@ -62,8 +62,7 @@ pub record Scene : Type 0 where
 abbrev pub nearest_in_stripe : ℕ → ℕ → ℕ
 nearest_in_stripe side at = min (at - 3) (side - 1)
 
--- Row y as a stripe reads it: above it two deblocked rows, below it two as well, in it the enhanced
--- ones.
+-- row y as a stripe reads it: deblocked rows for two above and two below it, in it the enhanced ones
 unfoldable pub in_stripe : Scene → ℕ → ℕ → ℤ
 in_stripe s x y =
     if nat_lt y s.stripe.start then pixel s.deblocked x (max y (s.stripe.start - 2))
@@ -78,7 +77,7 @@ stripe_source s x y = in_stripe s (nearest_in_stripe s.enhanced.width x) (neares
 abbrev pub picture_of : {X : Type 0} → (X → ℤ) → ℕ → ℕ → Plane X → Picture
 picture_of number width height p = record { samples = plane_numbers number p; origin = origin_place p.cfg; step = p.cfg.stride; width = width; height = height }
 
--- a stripe of two planes
+-- what the filters read of a stripe of two planes
 abbrev pub scene_in : {X : Type 0} → (X → ℤ) → ℕ → ℕ → ℕ → ℕ → Plane X → Plane X → Scene
 scene_in number width height start stop e d = record { deblocked = picture_of number width height d; enhanced = picture_of number width height e; stripe = record { start = start; stop = stop } }
 

@@ -15,7 +15,7 @@ pub record HasArea (origin step x0 x1 y0 y1 : ℕ) (value : ℕ → ℕ → ℤ)
   pub off : (i : ℕ) → ((x y : ℕ) → x0 ≤ x → x < x1 → y0 ≤ y → y < y1 → i ≢ origin + y * step + x) → sample after i ≡ sample before i
   pub long : length after ≡ length before
 
--- rows of that width lie in a list of n numbers
+-- `height` rows of `width` numbers lie in a list of n numbers
 pub record HasRowRoom (origin step width height n : ℕ) : Type 0 where
   pub wide : width ≤ step
   pub inside : origin + height * step + width ≤ n + step

@@ -7,7 +7,7 @@ abbrev pub sum_of_first : ℕ → (ℕ → ℤ) → ℤ
 sum_of_first zero f = pos 0
 sum_of_first (suc n) f = sum_of_first n f +ℤ f n
 
--- the same of natural numbers
+-- f 0 + .. + f (n - 1), of natural numbers
 abbrev pub total_of_first : ℕ → (ℕ → ℕ) → ℕ
 total_of_first zero f = 0
 total_of_first (suc n) f = total_of_first n f + f n
@@ -16,7 +16,7 @@ total_of_first (suc n) f = total_of_first n f + f n
 abbrev pub round2 : ℤ → ℕ → ℤ
 round2 v n = int_shr (v +ℤ pos (2 ^ n / 2)) n
 
--- the same of a natural number
+-- v / 2 ^ n, rounded, of a natural number
 abbrev pub rounded_shift : ℕ → ℕ → ℕ
 rounded_shift v n = (v + 2 ^ n / 2) / 2 ^ n
 

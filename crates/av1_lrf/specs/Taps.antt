@@ -9,16 +9,16 @@ use Rattle.av1_lrf.specs.Rows.{sample, Scene, scene_in, HasShape, HasStripePictu
 use Rattle.av1_tiling.specs.Restoration.{across_coeffs, down_coeffs}
 use Rattle.av1_lrf.specs.Wiener.{Rounding, down, taps, across_rounding, down_rounding}
 
--- all seven
+-- all seven taps of a symmetric filter
 abbrev pub seven : Taps → List ℤ
 seven t = t.a ∷ t.b ∷ t.c ∷ t.middle ∷ t.c ∷ t.b ∷ t.a ∷ []
 
--- at most m, on both sides of 0
+-- a number is at most m, on both sides of 0
 pub record IsWithinBound (m : ℕ) (v : ℤ) : Type 0 where
   pub low : neg_ℤ (pos m) ≤ℤ v
   pub high : v ≤ℤ pos m
 
--- taps of small numbers
+-- the taps are at most 256 on both sides of 0
 pub record AreTaps (t : Taps) : Type 0 where
   pub a : IsWithinBound 256 t.a
   pub b : IsWithinBound 256 t.b
@@ -41,11 +41,11 @@ pub record AreLimits (l : Limits) : Type 0 where
 pub record HasStripeCells (n m : ℕ) (value : ℕ → ℕ → ℤ) (cells : List ℤ) : Type 0 where
   pub each : (i j : ℕ) → i < n → j < m → sample cells (j * 64 + i) ≡ value i j
 
--- what the stripe of an extent reads
+-- what the filters read of the stripe of an extent
 abbrev pub scene_by : {X : Type 0} → (X → ℤ) → Extent → Plane X → Plane X → Scene
 scene_by number e enhanced deblocked = scene_in number e.width e.height e.start e.stop enhanced deblocked
 
--- a stripe of planes that have a visible part of these sides
+-- an extent's stripe of two planes that have a visible part of these sides
 pub record CanLook {X : Type 0} (e : Extent) (p d : Plane X) : Type 0 where
   pub enhanced : HasShape e.width e.height p
   pub deblocked : HasShape e.width e.height d
@@ -53,7 +53,7 @@ pub record CanLook {X : Type 0} (e : Extent) (p d : Plane X) : Type 0 where
   pub stop : e.start ≤ e.stop
   pub near : e.stop ≤ 131072
 
--- a stripe of planes whose visible samples 15 bits hold
+-- an extent's stripe of two planes whose visible samples 15 bits hold
 pub record CanReadStripe {X : Type 0} (number : X → ℤ) (e : Extent) (p d : Plane X) : Type 0 where
   pub enhanced : HasStripePicture number 32768 e.width e.height p
   pub deblocked : HasStripePicture number 32768 e.width e.height d
@@ -61,11 +61,11 @@ pub record CanReadStripe {X : Type 0} (number : X → ℤ) (e : Extent) (p d : P
   pub stop : e.start < e.stop
   pub near : e.stop ≤ 131072
 
--- a sample by a filter
+-- a sample of a stripe after a filter across and down
 abbrev pub down_by : Filter → Scene → ℕ → ℕ → ℤ
 down_by f s x y = down (rounding_of f.across_limits) (seven f.across) (rounding_of f.down_limits) (seven f.down) s x y
 
--- a filter whose results are numbers of samples
+-- a filter whose taps and limits are small and whose results are below a limit
 pub record IsTapFilter (limit : ℕ) (f : Filter) : Type 0 where
   pub across : AreTaps f.across
   pub across_limits : AreLimits f.across_limits
@@ -75,7 +75,7 @@ pub record IsTapFilter (limit : ℕ) (f : Filter) : Type 0 where
   pub order : f.down_limits.low ≤ℤ f.down_limits.high
   pub high : f.down_limits.high <ℤ pos limit
 
--- the filter of a unit's coefficients
+-- f is the filter of a unit's coefficients
 pub record IsWiener (bd : ℕ) (coeffs : List (List ℤ)) (f : Filter) : Type 0 where
   pub across : seven f.across ≡ taps (across_coeffs coeffs)
   pub across_limits : rounding_of f.across_limits ≡ across_rounding bd

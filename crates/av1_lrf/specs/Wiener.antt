@@ -13,7 +13,7 @@ taps cs =
     let c = sample cs 2 in
     a ∷ b ∷ c ∷ (pos 128 -ℤ pos 2 *ℤ (a +ℤ b +ℤ c)) ∷ c ∷ b ∷ a ∷ []
 
--- by how many bits the sums across and down are rounded
+-- by how many bits the sums across are rounded
 abbrev pub across_bits : ℕ → ℕ
 across_bits bd = if bd == 12 then 5 else 3
 
@@ -21,7 +21,7 @@ across_bits bd = if bd == 12 then 5 else 3
 abbrev pub down_bits : ℕ → ℕ
 down_bits bd = if bd == 12 then 9 else 11
 
--- How a sum is rounded, and its limits.
+-- how a sum is rounded, and its limits
 pub record Rounding : Type 0 where
   pub bits : ℕ
   pub low : ℤ
@@ -31,7 +31,7 @@ pub record Rounding : Type 0 where
 abbrev pub reduced : Rounding → ℤ → ℤ
 reduced r v = limited r.low r.high (round2 v r.bits)
 
--- a sum across; 16 bits hold it
+-- how a sum across is rounded and limited, so that 16 bits hold it
 abbrev pub across_rounding : ℕ → Rounding
 across_rounding bd =
     let bits = across_bits bd in
@@ -39,7 +39,7 @@ across_rounding bd =
     let limit = 2 ^ (bd + 8 - bits) - 1 in
     record { bits = bits; low = neg_ℤ (pos offset); high = pos limit -ℤ pos offset }
 
--- a sum down, which is a sample
+-- how a sum down is rounded and limited, so that it is a sample
 abbrev pub down_rounding : ℕ → Rounding
 down_rounding bd = record { bits = down_bits bd; low = pos 0; high = pos (2 ^ bd - 1) }
 

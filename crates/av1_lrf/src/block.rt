@@ -65,7 +65,7 @@ pub fn write<T: Pixel>(out: &mut [T], at: usize, v: i16)
     out[at] = T::from_i32(i32::from(v));
 }
 
-// Filters `n` columns of cells down, those from cell `first` on, into the samples from `at` on.
+// Filters `n` columns of cells down, from cell `first` on, into the samples from `at` on.
 #[inline(always)]
 #[tactic(auto, using(crate::proofs::RunFacts::runs))]
 fn filter_down<T: Pixel>(

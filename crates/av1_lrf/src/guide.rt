@@ -103,7 +103,7 @@ fn index_row(
     }
 }
 
-// Their weights.
+// The weights of a row of squares.
 #[inline(always)]
 #[tactic(auto, using(crate::proofs::IntegralFacts::sums))]
 fn weigh_row(a: &mut [u32], to: usize, n: usize, weights: &[u32])
@@ -118,7 +118,7 @@ fn weigh_row(a: &mut [u32], to: usize, n: usize, weights: &[u32])
     }
 }
 
-// Their means.
+// The means of a row of squares.
 #[inline(always)]
 #[tactic(auto, using(crate::proofs::IntegralFacts::sums))]
 fn mean_row(b: &mut [u32], a: &[u32], to: usize, n: usize, one_by: u32)

@@ -9,7 +9,7 @@ use crate::guide::{Guide, guide_rows, weight_of};
 use crate::mix::{Mix, finish};
 use av1_plane::Pixel;
 
-/// Both passes, and how they are joined.
+/// The two passes of the self-guided filter, and how their results are joined.
 #[derive(Clone, Copy)]
 pub struct Plan {
     pub two: Guide,
@@ -111,7 +111,7 @@ fn finish_line<T: Pixel>(
     }
 }
 
-// A pass of strength 0 reads no cells. It gets those of the other pass, so that the strengths are
+// A pass of strength 0 reads no cells. It gets the other pass's cells, so that the strengths are
 // tested once a row and not for each sample.
 fn finish_by_strengths<T: Pixel>(
     out: &mut [T],

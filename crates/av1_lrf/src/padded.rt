@@ -4,7 +4,7 @@ ghost use Rattle.av1_lrf.specs.Padded.{padded_row, far_place};
 use std::iter::FusedIterator;
 use std::marker::Model;
 
-/// The samples of a row from a place on, seen as the list of those that are left. Past an end of
+/// The samples of a row from a place on, seen as the list of the samples that are left. Past an end of
 /// the row stands its first or its last sample.
 #[derive(Drop)]
 pub struct HorzPaddedIter<'a, T> {

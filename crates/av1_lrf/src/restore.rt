@@ -12,7 +12,7 @@ use crate::plane::restore_stripe;
 use av1_plane::{Pixel, Plane};
 use av1_tiling::RestorationPlane;
 
-// Restores the stripe of that number. Stripes are `height` rows high, the first one `offset` less.
+// Restores stripe `k`. Stripes are `height` rows high, but the first one has `offset` rows less.
 fn restore_nth<T: Pixel>(
     units: &RestorationPlane,
     cdef: bool,

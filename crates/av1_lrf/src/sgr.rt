@@ -145,7 +145,7 @@ pub fn setup_integral_image<T: Pixel>(
     );
 }
 
-// So many numbers, all zero.
+// `count` numbers, all zero.
 fn zeros(alloc: Global, count: usize) -> Result<Vec<u32>, OutOfMemory>
     ensures { IfOk result (λ v. v.items ≡ replicate count 0) }
 {

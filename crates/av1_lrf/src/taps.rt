@@ -13,7 +13,7 @@ pub struct Taps {
     pub middle: i16,
 }
 
-/// How a sum is rounded, and what it is cut to.
+/// How a sum is rounded, and the limits to which it is cut.
 #[derive(Clone, Copy)]
 pub struct Limits {
     pub bits: u32,

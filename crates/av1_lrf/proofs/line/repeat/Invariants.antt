@@ -3,5 +3,6 @@ use Rattle.av1_lrf.specs.Rows.{sample}
 use Rattle.av1_lrf.specs.Runs.{HasSampleRun}
 use Rattle.av1_lrf.proofs.line.repeat.Given as goal
 
+-- One sample is repeated i times.
 abbrev pub invariant-loop-i : goal.invariant-loop-i
 invariant-loop-i g l = HasSampleRun l.from l.i (λ i. sample (map g.T.Pixel.number l.row) l.at) l.initial.line l.line

@@ -8,6 +8,7 @@ use Rattle.av1_lrf.specs.Restore.{restored_by}
 use Rattle.av1_lrf.specs.Units.{edge}
 use Rattle.av1_lrf.proofs.plane.restore_stripe.Given as goal
 
+-- The stripe is restored in the first u units.
 abbrev pub invariant-loop-u : goal.invariant-loop-u
 invariant-loop-u g l = record {
   cfg : l.out.cfg ≡ l.initial.out.cfg;

@@ -8,6 +8,7 @@ use Rattle.av1_lrf.specs.Restore.{restored}
 use Rattle.av1_lrf.specs.Units.{row_edge}
 use Rattle.av1_lrf.proofs.restore.restore_plane.Given as goal
 
+-- The first k stripes of the plane are restored.
 abbrev pub invariant-loop-k : goal.invariant-loop-k
 invariant-loop-k g l = record {
   cfg : l.out.cfg ≡ l.initial.out.cfg;
