@@ -32,7 +32,7 @@ use Rattle.av1_frame.specs.Reference.{lowest_least, fast_levels, levels_of, meas
 
 -- The lowest level of least error.
 
--- one number more
+-- the lowest number so far stays the lowest, or the next one replaces it
 one_more : (f : ℕ → ℕ) (n best : ℕ) (b : Bool) → IsLowestLeast f (suc n) best → nat_lt (f (suc n)) (f best) ≡ b
     → IsLowestLeast f (suc (suc n)) (if b then suc n else best)
 one_more f n best true h test =
@@ -56,6 +56,7 @@ one_more f n best false h test =
       lowest = h.lowest;
     }
 
+-- The function `lowest_least` finds the lowest number up to n at which f is least.
 lowest_found : (f : ℕ → ℕ) (n : ℕ) → IsLowestLeast f (suc n) (lowest_least f n)
 unfolding lowest_least
 lowest_found f zero = record {
@@ -65,7 +66,7 @@ lowest_found f zero = record {
 }
 lowest_found f (suc n) = one_more f n (lowest_least f n) (nat_lt (f (suc n)) (f (lowest_least f n))) (lowest_found f n) refl
 
--- no two numbers are
+-- at most one number is the lowest at which f is least
 lowest_once : (f : ℕ → ℕ) (n a b : ℕ) → IsLowestLeast f n a → IsLowestLeast f n b → a ≡ b
 lowest_once f n a b ha hb =
     let first : f a ≤ f b = ha.least b hb.inside in
@@ -78,10 +79,11 @@ lowest_once f n a b ha hb =
       ]
     ]
 
+-- A lowest level of least error is the one that `lowest_least` finds.
 lowest_is : (f : ℕ → ℕ) (best : ℕ) → IsLowestLeast f 64 best → best ≡ lowest_least f 63
 lowest_is f best h = lowest_once f 64 best (lowest_least f 63) h (lowest_found f 63)
 
--- a list of four
+-- a list of length 4 is the list of its four entries
 four_of : (xs : List ℕ) → length xs ≡ 4 → xs ≡ get_or xs 0 0 ∷ get_or xs 1 0 ∷ get_or xs 2 0 ∷ get_or xs 3 0 ∷ []
 four_of [] e = absurd (omega arith)
 four_of (a ∷ []) e = absurd (omega arith)
@@ -90,6 +92,7 @@ four_of (a ∷ b ∷ c ∷ []) e = absurd (omega arith)
 four_of (a ∷ b ∷ c ∷ d ∷ []) e = refl
 four_of (a ∷ b ∷ c ∷ d ∷ x ∷ xs) e = absurd (omega arith)
 
+-- Four levels of least error are those that `lowest_least` finds for the two directions and for chroma.
 best_are : (t : BlockTable) (m : Three Measured) (levels : List ℕ) → length levels ≡ 4 → AreBest t m levels
     → levels ≡ lowest_least (error_at t m.y true) 63 ∷ lowest_least (error_at t m.y false) 63 ∷ lowest_least (error_of_both t m.u) 63 ∷ lowest_least (error_of_both t m.v) 63 ∷ []
 best_are t m levels four h =
@@ -103,6 +106,7 @@ by_choice : (p : Parameters) (t : BlockTable) (m : Three Measured) (levels : Lis
 by_choice p t m levels true e four h = h.fast e
 by_choice p t m levels false e four h = best_are t m levels four (h.best e)
 
+-- Four levels that are chosen as AreLevels says are the levels of the specification.
 pub levels_are : (p : Parameters) (blocks : List Block) (coded source : Three PlaneView) (t : BlockTable) (m : Three Measured) (levels : List ℕ)
     → t ≡ block_table p blocks → m ≡ record { y = measured_in p 0 coded.y source.y; u = measured_in p 1 coded.u source.u; v = measured_in p 2 coded.v source.v }
     → length levels ≡ 4 → AreLevels p t m levels → levels ≡ levels_of p blocks coded source
@@ -112,7 +116,7 @@ levels_are p blocks coded source t m levels table measured four h =
     lowest_least (error_at (table i) (measured i).y true) 63 ∷ lowest_least (error_at (table i) (measured i).y false) 63
     ∷ lowest_least (error_of_both (table i) (measured i).u) 63 ∷ lowest_least (error_of_both (table i) (measured i).v) 63 ∷ [])
 
--- each is at most 63
+-- a list of four numbers that are each at most 63
 four_low : (a b c d : ℕ) → a ≤ 63 → b ≤ 63 → c ≤ 63 → d ≤ 63 → All (λ n. n ≤ 63) (a ∷ b ∷ c ∷ d ∷ [])
 four_low a b c d ha hb hc hd zero e l = ha
 four_low a b c d ha hb hc hd (suc zero) e l = hb
@@ -126,12 +130,12 @@ four_low a b c d ha hb hc hd (suc (suc (suc (suc n)))) e l = absurd (omega arith
 not_empty : (w h : ℕ) → 0 < w → 0 < h → ((w == 0) || (h == 0)) ≡ false
 not_empty w h lw lh = grind (arith, nat_tests)
 
--- a side, where there is one
+-- a side is the number n where the plane isn't empty
 some_side : (b : Bool) (n m : ℕ) → b ≡ false → n ≡ m → (if b then 0 else n) ≡ m
 some_side true n m e l = absurd (true≢false e)
 some_side false n m e l = l
 
--- the layout of luma
+-- the luma plane of a frame has the layout of the frame
 pub fits_y : (w h : ℕ) (sampling : ChromaSampling) → 1 ≤ w → 1 ≤ h → FitsFrame 0 w h (frame_layout w h sampling).y
 fits_y w h sampling lw lh =
     let some = not_empty (rounded w) (rounded h) (omega arith) (omega arith) in
@@ -141,7 +145,7 @@ fits_y w h sampling lw lh =
       high = some_side (is_empty (frame_layout w h sampling).y) (rounded h / 2 ^ 0) (rounded h) some (omega arith);
     }
 
--- that of chroma
+-- a chroma plane of a frame has the layout of the frame
 pub fits_chroma : (pli w h : ℕ) (sampling : ChromaSampling) → 0 < pli → 1 ≤ w → 1 ≤ h → FitsFrame pli w h (frame_layout w h sampling).u
 fits_chroma pli w h Cs420 some lw lh =
     let filled = not_empty (rounded w / 2 ^ 1) (rounded h / 2 ^ 1) (omega arith) (omega arith) in
@@ -170,31 +174,33 @@ fits_chroma pli w h Cs400 some lw lh = record {
   high = refl;
 }
 
--- each plane of a frame made for its parameters
+-- the luma plane of an input of a frame is a plane made for the frame's parameters
 pub y_for : (p : Parameters) (f : Three PlaneView) → 1 ≤ p.width → 1 ≤ p.height → IsInputFor p f → IsPlaneFor p 0 f.y
 y_for p f lw lh i = record {
   layout = subst (FitsFrame 0 p.width p.height) (ap (λ (t : Three PlaneConfig). t.y) (sym i.layout)) (fits_y p.width p.height p.sequence.chroma_sampling lw lh);
   range = i.y_range;
 }
 
+-- The U plane of an input of a frame is a plane made for the frame's parameters.
 pub u_for : (p : Parameters) (f : Three PlaneView) → 1 ≤ p.width → 1 ≤ p.height → IsInputFor p f → IsPlaneFor p 1 f.u
 u_for p f lw lh i = record {
   layout = subst (FitsFrame 1 p.width p.height) (ap (λ (t : Three PlaneConfig). t.u) (sym i.layout)) (fits_chroma 1 p.width p.height p.sequence.chroma_sampling (omega arith) lw lh);
   range = i.u_range;
 }
 
+-- The V plane of an input of a frame is a plane made for the frame's parameters.
 pub v_for : (p : Parameters) (f : Three PlaneView) → 1 ≤ p.width → 1 ≤ p.height → IsInputFor p f → IsPlaneFor p 2 f.v
 v_for p f lw lh i = record {
   layout = subst (FitsFrame 2 p.width p.height) (ap (λ (t : Three PlaneConfig). t.v) (sym i.layout)) (fits_chroma 2 p.width p.height p.sequence.chroma_sampling (omega arith) lw lh);
   range = i.v_range;
 }
 
--- bit depths of the profile
+-- the bit depth of a frame is one of the profile
 pub depth_is : (limit depth : ℕ) → FitsDepth limit depth → IsDepth depth
 depth_is limit depth (inl eight) = inl eight.0
 depth_is limit depth (inr more) = inr more.0
 
--- the sample type holds them
+-- the sample type of a frame holds all samples of its depth
 pub depth_fits : (limit depth : ℕ) → FitsDepth limit depth → 2 ^ depth ≤ limit
 depth_fits limit depth (inl eight) = rw (eight.0, eight.1) (omega arith)
 depth_fits limit depth (inr more) = elim more.0 [ inl ten ↦ rw (ten, more.1) (omega arith) | inr twelve ↦ rw (twelve, more.1) (omega arith) ]
@@ -213,7 +219,7 @@ module _ {X : Type 0} (number : X → ℤ) (w h bd pli : ℕ) where
       let h_fits = fits.high in
       record { wide = omega arith; high = omega arith }
 
-  -- in depth
+  -- a region of a whole plane shows the plane's rounded part in depth
   shows_depth : (cfg : PlaneConfig) (plane : Plane X) (r : PlaneRegion X) → plane.cfg ≡ cfg → FitsFrame pli w h cfg → ShowsPlane plane r
       → IsInRange (2 ^ bd) (view_plane number plane) → ShowsDepth bd cfg w h number r
   shows_depth cfg plane r same fits shown range = record {
@@ -232,7 +238,7 @@ module _ {X : Type 0} (number : X → ℤ) (w h bd pli : ℕ) where
         subst (InDepth (2 ^ bd)) (sym read) here;
   }
 
-  -- both planes can be compared
+  -- the errors of a plane of a coded frame and its source can be tallied
   pub can_tally : (plane source : Plane X) (r s : PlaneRegion X) → source.cfg ≡ plane.cfg → FitsFrame pli w h plane.cfg → ShowsPlane plane r → ShowsPlane source s
       → IsInRange (2 ^ bd) (view_plane number plane) → IsInRange (2 ^ bd) (view_plane number source) → CanTally number (frame_shape w h bd) pli r s
   can_tally plane source r s same fits shown shown_source range range_source =
@@ -244,7 +250,7 @@ module _ {X : Type 0} (number : X → ℤ) (w h bd pli : ℕ) where
         src_range = subst (λ (c : PlaneConfig). ShowsDepth bd c w h number s) (sym shown.cfg) (shows_depth plane.cfg source s same fits shown_source range_source);
       }
 
-  -- what is compared
+  -- what is measured on two planes is what the specification compares
   pub measured_is : (p : Parameters) → p.width ≡ w → p.height ≡ h → p.sequence.bit_depth ≡ bd → (plane source : Plane X) (r s : PlaneRegion X) → ShowsPlane plane r → ShowsPlane source s
       → measured_plane number (frame_shape w h bd) pli r s ≡ measured_in p pli (view_plane number plane) (view_plane number source)
   measured_is p wide high deep plane source r s shown shown_source =
@@ -261,6 +267,7 @@ unfolding clamped_level
 clamped_low (pos n) = omega arith
 clamped_low (negsuc n) = omega arith
 
+-- Levels are at most 63, whether they are guessed or measured.
 by_way : (p : Parameters) (t : BlockTable) (m : Three Measured) (levels : List ℕ) (b : Bool) → p.fast_deblock ≡ b → length levels ≡ 4 → AreLevels p t m levels → All (λ n. n ≤ 63) levels
 by_way p t m levels true e four h =
     let low = clamped_low (fitted_level p.ac_quantizer p.sequence.bit_depth (is_key p.frame_type)) in
@@ -274,5 +281,6 @@ by_way p t m levels false e four h =
     let d = best.v.inside in
     subst (All (λ n. n ≤ 63)) (sym (four_of levels four)) (four_low (get_or levels 0 0) (get_or levels 1 0) (get_or levels 2 0) (get_or levels 3 0) (omega arith) (omega arith) (omega arith) (omega arith))
 
+-- The four levels that a frame may have are at most 63.
 pub levels_low : (p : Parameters) (t : BlockTable) (m : Three Measured) (levels : List ℕ) → length levels ≡ 4 → AreLevels p t m levels → All (λ n. n ≤ 63) levels
 levels_low p t m levels four h = by_way p t m levels p.fast_deblock refl four h

@@ -1,4 +1,4 @@
--- Each kind of step keeps the rule.
+-- Each kind of step of a seat keeps the rule on claims.
 use Rattle.std.proofs.Common.{◌≡◌, ◌≢◌, ◌⊎◌, ℕ, zero, suc, ◌+◌, ◌<◌, List, [], ◌∷◌, ◌++◌, length, set, slice_index, bit_or, true, false, Option, Some, None, is_none, refl, sym, ap, ◌∙◌, subst, inl, inr, ⊎_elim, arith, get_or-set_same, get_or-set_other, length-set}
 use mathlib.Core.Logic.{dite}
 use mathlib.Core.Option.{some, none, some-injective, some-ne-none}
@@ -14,19 +14,23 @@ use Rattle.av1_frame.specs.declared.doing.Doing.TheVariants.{Spent, Live}
 use Rattle.av1_frame.specs.Claims.{times, Has, sign, claims, claims_of, Sits, SitsIf, Ruled, fresh, is_idle, taking, AtBy, IsAbout, with_claimed, with_missed, with_closed, Claimed, Finished, Looked, joined, split_off}
 use Rattle.av1_frame.proofs.Counting.{times-append, times_one, times_other, claims_of-set, claims_of-snoc, one_claims, two_claim}
 
+-- An entry that is set in a list can be read back from it.
 pub set_at : {A : Type 0} (l : List A) (i : ℕ) (a b : A) → get_elem? l i ≡ some b → get_elem? (set l i a) i ≡ some a
 set_at [] i a b e = absurd (some-ne-none b (sym e))
 set_at (x ∷ xs) zero a b e = refl
 set_at (x ∷ xs) (suc i) a b e = set_at xs i a b e
 
 module _ {X : Type 0} where
+  -- What a live seat knows, or a default for a spent one.
   abbrev pub known : Knows X → Doing X → Knows X
   known k (Live l) = l
   known k Spent = k
 
+  -- Two live seats that are equal know equal things.
   pub same_known : (k l : Knows X) → some (Live k) ≡ some (Live l) → k ≡ l
   same_known k l e = ap (known k) (some-injective (Live k) (Live l) e)
 
+-- The sign of a number is 0 or 1.
 pub sign_small : (x : ℕ) → sign x < 2
 sign_small zero = omega arith
 sign_small (suc x) = omega arith
@@ -38,9 +42,11 @@ pointwise words i x h P here others n = dite (ℕ_discrete n i)
     (λ ne. subst (λ (w : ℕ). P n w) (sym (get_or-set_other words i n x 0 ne)) (others n ne))
 
 module _ {S X : Type 0} (At : X → ℕ → ℕ → S → Type 0) (about : X) where
+  -- The state of a table whose seats claim tiles.
   abbrev St : Type 0
   St = State S (Doing X)
 
+  -- What a seat knows of the words stays true when a word becomes one that isn't 0.
   still : (s : St) (i x : ℕ) → i < length s.words → x ≢ 0 → (d : Doing X) → ((l : Knows X) → d ≡ Live l → l.held ≡ Some i → x ≡ 1) → SitsIf s.words about d → SitsIf (set s.words i x) about d
   still s i x inside nonzero Spent free h = tt
   still s i x inside nonzero (Live l) free h = record {
@@ -75,6 +81,7 @@ module _ {S X : Type 0} (At : X → ℕ → ℕ → S → Type 0) (about : X) wh
         (λ n ne lt' ne1. let h = r.home n lt' ne1 in (h.0, slots n ne ∙ h.1, h.2)) n (subst (λ (m : ℕ). n < m) (length-set s.words i x) lt);
   }
 
+  -- What a seat of a table in order knows of the words is true.
   own : (s : St) (r : Ruled At about s) (id : ℕ) (k : Knows X) → get_elem? s.views id ≡ some (Live k) → Sits s.words about k
   own s r id k at = r.seats id (Live k) at
 
@@ -87,15 +94,19 @@ module _ {S X : Type 0} (At : X → ℕ → ℕ → S → Type 0) (about : X) wh
       let all = r.once n in let one : sign (slice_index s.words n) ≡ 1 = ap sign a.1 in
       let p = a.0 in let q = b.0 in omega arith
 
+  -- A slot below the number of slots has a word.
   below : (s : St) (r : Ruled At about s) (slots n : ℕ) → length s.homes ≡ slots → n < slots → n < length s.words
   below s r slots n e h = let d = r.deep in omega arith
 
+  -- A seat that holds nothing doesn't hold a number.
   none_is_none : (k : Knows X) (n : ℕ) {A : Type 0} → k.held ≡ None → k.held ≡ Some n → A
   none_is_none k n e f = let h : None ≡ Some n = sym e ∙ f in cc
 
+  -- What a claim of tile n must keep and must tell.
   abbrev ClaimGoal : (slots id n : ℕ) → Knows X → St → ℕ → Type 0
   ClaimGoal slots id n k s z = (w : Doing X) × (a : Act S) × Valid s.homes [] a × Ruled At about (stepped s n (bit_or z 1) id [] w a) × Claimed At (step slots n 1 0 none) (Live k, []) z (w, carried_after [] a)
 
+  -- A claim of a free tile keeps the rule and tells that the tile was free.
   claim_free : (slots id n : ℕ) (k : Knows X) → k.held ≡ None → (s : St) (r : Ruled At about s) → n < length s.words → get_elem? s.views id ≡ some (Live k) → slice_index s.words n ≡ 0 → ClaimGoal slots id n k s 0
   claim_free slots id n k idle s r inside at w =
       let h = r.home n inside (λ e. let f : 0 ≡ 1 = sym w ∙ e in cc) in
@@ -125,7 +136,7 @@ module _ {S X : Type 0} (At : X → ℕ → ℕ → S → Type 0) (about : X) wh
         ((λ _. (omega arith, (h.0, subst (λ (a : X). At a n 0 h.0) (sym o.same) (subst (λ (v : ℕ). At about n v h.0) w h.2), refl))), (λ ne. absurd (ne refl))),
       )
 
-  -- the word x is 1 or 3, and stays
+  -- a claim of a taken tile keeps the rule, and the tile's word stays
   claim_taken : (slots id n x : ℕ) (k : Knows X) → k.held ≡ None → (s : St) (r : Ruled At about s) → n < length s.words → get_elem? s.views id ≡ some (Live k) → slice_index s.words n ≡ x → x ≢ 0 → bit_or x 1 ≡ x
       → ClaimGoal slots id n k s x
   claim_taken slots id n x k idle s r inside at w busy stays =
@@ -155,7 +166,7 @@ module _ {S X : Type 0} (At : X → ℕ → ℕ → S → Type 0) (about : X) wh
         ((λ z. absurd (busy z)), (λ _. refl)),
       )
 
-  -- kind 1
+  -- a claim by a seat that holds nothing keeps the rule
   pub claim_allowed : (slots id n : ℕ) (k : Knows X) → k.held ≡ None → n < slots
       → Allows (Ruled At about) slots id (Live k, []) n (λ x. bit_or x 1) (Claimed At (step slots n 1 0 none) (Live k, []))
   claim_allowed slots id n k idle h s r as_deep at small =
@@ -165,11 +176,12 @@ module _ {S X : Type 0} (At : X → ℕ → ℕ → S → Type 0) (about : X) wh
       (λ e. subst (λ (x : ℕ). ClaimGoal slots id n k s x) (sym e) (claim_taken slots id n 3 k idle s r inside at e (λ z. cc) refl)) t)
       (r.values n)
 
+  -- What the end of a claim must keep and must tell.
   abbrev FinishGoal : (slots id n : ℕ) → Knows X → S → St → ℕ → Type 0
   FinishGoal slots id n k y s z = (w : Doing X) × (a : Act S) × Valid s.homes ((n, y) ∷ []) a × Ruled At about (stepped s n (bit_or z 2) id ((n, y) ∷ []) w a)
       × Finished (step slots n 2 0 none) (Live k, (n, y) ∷ []) z (w, carried_after ((n, y) ∷ []) a)
 
-  -- kind 4
+  -- the end of a claim by the seat that holds the tile keeps the rule
   pub finish_allowed : (slots id n : ℕ) (k : Knows X) (y : S) → k.held ≡ Some n → n < slots → At k.about n 3 y
       → Allows (Ruled At about) slots id (Live k, (n, y) ∷ []) n (λ x. bit_or x 2) (Finished (step slots n 2 0 none) (Live k, (n, y) ∷ []))
   finish_allowed slots id n k y holds h result s r as_deep at small =
@@ -208,7 +220,7 @@ module _ {S X : Type 0} (At : X → ℕ → ℕ → S → Type 0) (about : X) wh
     (refl, λ n. let a = one_claims s.views id m.0 n at in let b = r.once n in let c = sign_small (slice_index s.words n) in omega arith),
   )
 
-  -- kind 5
+  -- a seat that is split off keeps the rule
   pub split_allowed : (id : ℕ) (k : Knows X) → Splits (Ruled At about) id (Live k) (Live k) (fresh k.about)
   split_allowed id k s r at =
       let o = own s r id k at in
@@ -222,7 +234,7 @@ module _ {S X : Type 0} (At : X → ℕ → ℕ → S → Type 0) (about : X) wh
         home = r.home;
       })
 
-  -- kind 6
+  -- two seats that are joined keep the rule
   pub join_allowed : (id other : ℕ) (k l : Knows X) → k.held ≡ None → l.held ≡ None → Joins (Ruled At about) id (Live k) other (Live l) (joined (Live k) (Live l)) Spent
   join_allowed id other k l idle idle' s r at ne at2 =
       let both : Doing X = joined (Live k) (Live l) in
@@ -248,16 +260,18 @@ module _ {S X : Type 0} (At : X → ℕ → ℕ → S → Type 0) (about : X) wh
         home = r.home;
       }
 
+  -- An option that tests as none is none.
   idle_none : {A : Type 0} (o : Option A) → is_none o ≡ true → o ≡ None
   idle_none None e = refl
   idle_none (Some a) e = absurd (let f : false ≡ true = e in cc)
 
-  -- the same for a seat that is idle, without its parts
+  -- a claim by an idle seat keeps the rule
   pub claims_any : (slots id n : ℕ) (d : Doing X) → is_idle d ≡ true → n < slots
       → Allows (Ruled At about) slots id (d, []) n (λ x. bit_or x 1) (Claimed At (step slots n 1 0 none) (d, []))
   claims_any slots id n Spent e h = absurd (let f : false ≡ true = e in cc)
   claims_any slots id n (Live k) e h = claim_allowed slots id n k (idle_none k.held e) h
 
+  -- An idle seat may be told the end of a claim that it doesn't work on.
   pub finishes_any : (slots id n : ℕ) (d : Doing X) (y : S) → is_idle d ≡ true → n < slots → IsAbout about d → At about n 3 y
       → Allows (Ruled At about) slots id (taking d n, (n, y) ∷ []) n (λ x. bit_or x 2) (Finished (step slots n 2 0 none) (taking d n, (n, y) ∷ []))
   finishes_any slots id n Spent y e h is at = absurd (let f : false ≡ true = e in cc)
@@ -265,28 +279,33 @@ module _ {S X : Type 0} (At : X → ℕ → ℕ → S → Type 0) (about : X) wh
       let k' : Knows X = record { claimed = k.claimed ++ n ∷ []; missed = k.missed; held = Some n; about = k.about } in
       finish_allowed slots id n k' y refl h (subst (λ (a : X). At a n 3 y) (sym is) at)
 
+  -- Splitting a seat off an idle one keeps the rule.
   pub splits_any : (id : ℕ) (d : Doing X) → is_idle d ≡ true → Splits (Ruled At about) id d d (split_off d)
   splits_any id Spent e = absurd (let f : false ≡ true = e in cc)
   splits_any id (Live k) e = split_allowed id k
 
+  -- Joining two idle seats keeps the rule.
   pub joins_any : (id other : ℕ) (d d' : Doing X) → is_idle d ≡ true → is_idle d' ≡ true → Joins (Ruled At about) id d other d' (joined d d') Spent
   joins_any id other Spent d' e e' = absurd (let f : false ≡ true = e in cc)
   joins_any id other (Live k) Spent e e' = absurd (let f : false ≡ true = e' in cc)
   joins_any id other (Live k) (Live l) e e' = join_allowed id other k l (idle_none k.held e) (idle_none l.held e')
 
-  -- what a claim found at home
+  -- the copy of a seat tells what a claim found at home
   pub at_by : (d : Doing X) (n : ℕ) (y : S) → IsAbout about d → AtBy At d n 0 y → At about n 0 y
   at_by Spent n y is at = absurd is
   at_by (Live k) n y is at = subst (λ (a : X). At a n 0 y) is at
 
+  -- A claim keeps the rule for a seat that is given by its own state.
   pub claims_me : (slots id n : ℕ) (m : Me S (Doing X)) → is_idle m.0 ≡ true → m.1 ≡ [] → n < slots
       → Allows (Ruled At about) slots id m n (λ x. bit_or x 1) (Claimed At (step slots n 1 0 none) m)
   claims_me slots id n m idle empty h = subst (λ (c : List (ℕ × S)). Allows (Ruled At about) slots id (m.0, c) n (λ x. bit_or x 1) (Claimed At (step slots n 1 0 none) (m.0, c))) (sym empty) (claims_any slots id n m.0 idle h)
 
+  -- The end of a claim keeps the rule for a seat that is given by its own state.
   pub finishes_me : (slots id n : ℕ) (m : Me S (Doing X)) (d : Doing X) (y : S) → m ≡ (taking d n, (n, y) ∷ []) → is_idle d ≡ true → n < slots → IsAbout about d → At about n 3 y
       → Allows (Ruled At about) slots id m n (λ x. bit_or x 2) (Finished (step slots n 2 0 none) m)
   finishes_me slots id n m d y is idle h knows at = subst (λ (m : Me S (Doing X)). Allows (Ruled At about) slots id m n (λ x. bit_or x 2) (Finished (step slots n 2 0 none) m)) (sym is) (finishes_any slots id n d y idle h knows at)
 
+-- Two idle seats as one have the claims of the first and then of the second.
 pub claims_joined : {X : Type 0} (d d' : Doing X) → is_idle d ≡ true → is_idle d' ≡ true → claims (joined d d') ≡ claims d ++ claims d'
 claims_joined Spent d' e e' = absurd (let f : false ≡ true = e in cc)
 claims_joined (Live k) Spent e e' = absurd (let f : false ≡ true = e' in cc)

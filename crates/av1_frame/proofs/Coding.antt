@@ -19,7 +19,7 @@ next_of all rest n x e =
     let split : x ∷ rest ≡ get_or all n x ∷ drop (n + 1) all = sym e ∙ drop_more all n x less in
     (less, (cc, cc))
 
--- one more is coded
+-- one tile more is coded from its view
 pub one_coded : {A B C : Type 0} (f : A → C) (result : B → C) (R : A → C → Type 0) (all rest : List A) (n : ℕ) (x : A) (y : B) (made more : List B) → drop n all ≡ x ∷ rest
     → map result made ≡ map f (take n all) → AllZip R (take n all) (map result made) → more ≡ made ++ y ∷ [] → result y ≡ f x → R x (result y)
     → (rest ≡ drop (n + 1) all) × ((map result more ≡ map f (take (n + 1) all)) × AllZip R (take (n + 1) all) (map result more))
@@ -37,20 +37,20 @@ one_coded f result R all rest n x y made more left same shapes pushed coded shap
 
 -- Bytes and views apart.
 
--- the parts of one more result
+-- one result more adds its part
 parts_more : {X A : Type 0} (part : List ℕ × View → A) (yielded : List (Option (CodedTile X))) (tile : Option (CodedTile X))
     → filter_map (option_map part) (map result_of (yielded ++ tile ∷ [])) ≡ filter_map (option_map part) (map result_of yielded) ++ filter_map (option_map part) (result_of tile ∷ [])
 parts_more part yielded tile =
     ap (filter_map (option_map part)) (map-append result_of yielded (tile ∷ []))
     ∙ filter_map-append (option_map part) (map result_of yielded) (result_of tile ∷ [])
 
--- a refused tile has none
+-- a refused tile adds no part
 pub none_split : {X A : Type 0} (part : List ℕ × View → A) (yielded : List (Option (CodedTile X))) (tile : Option (CodedTile X)) (made : List A) → tile ≡ None
     → made ≡ filter_map (option_map part) (map result_of yielded) → made ≡ filter_map (option_map part) (map result_of (yielded ++ tile ∷ []))
 none_split part yielded tile made e same =
     same ∙ (sym (append-nil (filter_map (option_map part) (map result_of yielded))) ∙ ((λ i. filter_map (option_map part) (map result_of yielded) ++ filter_map (option_map part) (result_of (sym e i) ∷ [])) ∙ sym (parts_more part yielded tile)))
 
--- a coded tile has one
+-- one coded tile more adds its bytes and its view
 pub one_split : {X A : Type 0} (part : List ℕ × View → A) (yielded : List (Option (CodedTile X))) (tile : Option (CodedTile X)) (one : CodedTile X) (made more : List A) → tile ≡ Some one
     → made ≡ filter_map (option_map part) (map result_of yielded) → more ≡ made ++ part (one.bytes.items, one.context) ∷ [] → more ≡ filter_map (option_map part) (map result_of (yielded ++ tile ∷ []))
 one_split part yielded tile one made more e same pushed =

@@ -40,11 +40,11 @@ use Rattle.av1_frame.specs.Reference.{CanRebuild}
 use Rattle.av1_frame.proofs.Tiles.{tiles_lie, tiles_apart, tiles_each}
 use Rattle.av1_frame.proofs.CoveredUnits.{frame_units_are}
 
--- each place inside a plane is one of some part
+-- each place inside a plane is a place of some part
 abbrev pub AreCovering : PlaneConfig → List (Part ℤ) → Type 0
 AreCovering cfg parts = (x y : ℕ) → x < cfg.width → y < cfg.height → (n : ℕ) × (n < length parts) × IsInside (get_or parts n no_part).rect (cfg.xorigin + x) (cfg.yorigin + y)
 
--- entries that are the same have the same number
+-- entries that are equal have equal numbers
 same_number : (xs ys : List ℤ) (k j : ℕ) → slice_get xs k ≡ slice_get ys j → get_or xs k (pos 0) ≡ get_or ys j (pos 0)
 same_number xs ys k j e =
     sym (unwrap_or-slice_get xs k (pos 0)) ∙ (ap (λ (o : Option ℤ). unwrap_or o (pos 0)) e ∙ unwrap_or-slice_get ys j (pos 0))
@@ -76,7 +76,7 @@ plane_in_range bound cfg parts old new has wide covering each x y lx ly =
     subst (InDepth bound) (sym (same_number new part.entries k ((v - part.rect.y) * part.rect.width + (u - part.rect.x)) spot))
     (each n no_part place.1 (u - part.rect.x) (v - part.rect.y) columns rows)
 
--- a plane is no larger than so many superblocks, and has its margins
+-- a plane is no larger than whole superblocks, and has its margins
 pub record IsHeld (width height : ℕ) (cfg : PlaneConfig) : Type 0 where
   pub columns : cfg.width ≤ width / 2 ^ cfg.xdec
   pub rows : cfg.height ≤ height / 2 ^ cfg.ydec
@@ -84,10 +84,11 @@ pub record IsHeld (width height : ℕ) (cfg : PlaneConfig) : Type 0 where
   pub xdec : cfg.xdec ≤ 1
   pub ydec : cfg.ydec ≤ 1
 
--- so are those of a frame
+-- the superblocks that hold the rounded frame hold its luma plane
 luma_held : (w h width height : ℕ) (sampling : ChromaSampling) → rounded w ≤ width → rounded h ≤ height → IsHeld width height (frame_layout w h sampling).y
 luma_held w h width height sampling wide high = record { columns = omega arith; rows = omega arith; stride = omega arith; xdec = omega arith; ydec = omega arith }
 
+-- The superblocks that hold the rounded frame hold its chroma planes.
 chroma_held : (w h width height : ℕ) (sampling : ChromaSampling) → rounded w ≤ width → rounded h ≤ height → IsHeld width height (frame_layout w h sampling).u
 chroma_held w h width height Cs420 wide high = record { columns = omega arith; rows = omega arith; stride = omega arith; xdec = omega arith; ydec = omega arith }
 chroma_held w h width height Cs422 wide high = record { columns = omega arith; rows = omega arith; stride = omega arith; xdec = omega arith; ydec = omega arith }
@@ -101,6 +102,7 @@ stored_inside false x y rect u v e h =
     let left = h.left in let right = h.right in let top = h.top in let bottom = h.bottom in
     record { left = omega arith; right = omega arith; top = omega arith; bottom = omega arith }
 
+-- A plane with a place inside it isn't empty.
 some_place : (w h x y : ℕ) → x < w → y < h → ((w == 0) || (h == 0)) ≡ false
 some_place w h x y lx ly = grind (arith, nat_tests)
 
@@ -115,20 +117,22 @@ module _ (t : TilingInfo) (s : State) (blocks : List Block) (cols rows : ℕ) (m
         subst (λ n. n ≤ superblock_rows t * superblock_side t) taken.high (div_ceil_times t.frame_height (superblock_side t) (pow_pos t.sb_size_log2)).0,
       )
 
-  -- so they hold each plane
+  -- the superblocks hold the luma plane of a state
   y_held : IsHeld (superblock_columns t * superblock_side t) (superblock_rows t * superblock_side t) s.rec.y.cfg
   y_held = subst (IsHeld (superblock_columns t * superblock_side t) (superblock_rows t * superblock_side t)) (sym (ap (λ (l : Three PlaneConfig). l.y) made.layout))
       (luma_held made.width made.height (superblock_columns t * superblock_side t) (superblock_rows t * superblock_side t) made.sampling frame_held.0 frame_held.1)
 
+  -- The superblocks hold the U plane of a state.
   u_held : IsHeld (superblock_columns t * superblock_side t) (superblock_rows t * superblock_side t) s.rec.u.cfg
   u_held = subst (IsHeld (superblock_columns t * superblock_side t) (superblock_rows t * superblock_side t)) (sym (ap (λ (l : Three PlaneConfig). l.u) made.layout))
       (chroma_held made.width made.height (superblock_columns t * superblock_side t) (superblock_rows t * superblock_side t) made.sampling frame_held.0 frame_held.1)
 
+  -- The superblocks hold the V plane of a state.
   v_held : IsHeld (superblock_columns t * superblock_side t) (superblock_rows t * superblock_side t) s.rec.v.cfg
   v_held = subst (IsHeld (superblock_columns t * superblock_side t) (superblock_rows t * superblock_side t)) (sym (ap (λ (l : Three PlaneConfig). l.v) made.layout))
       (chroma_held made.width made.height (superblock_columns t * superblock_side t) (superblock_rows t * superblock_side t) made.sampling frame_held.0 frame_held.1)
 
-  -- a tile's part stays where it was cut out
+  -- the part of a tile stays where it was cut out
   part_rect : (part : View → Part ℤ) (rect : ℕ → TileRect) → ((n : ℕ) → (part (view_of t s blocks n)).rect ≡ rect n) → ((v w : View) → SameShape v w → (part w).rect ≡ (part v).rect)
       → (n : ℕ) → n < t.cols * t.rows → (part (get_or after n (view_of t s blocks 0))).rect ≡ rect n
   part_rect part rect at same n l =
@@ -138,7 +142,7 @@ module _ (t : TilingInfo) (s : State) (blocks : List Block) (cols rows : ℕ) (m
       same (get_or (views t s blocks) n first) (get_or after n first) shape
       ∙ (ap (λ (v : View). (part v).rect) (get_or-views_below t s blocks (t.cols * t.rows) n first l) ∙ at n)
 
-  -- the parts cover a plane
+  -- the parts of all tiles cover a plane
   parts_cover : (part : View → Part ℤ) (cfg : PlaneConfig) → IsHeld (superblock_columns t * superblock_side t) (superblock_rows t * superblock_side t) cfg
       → ((n : ℕ) → n < t.cols * t.rows → (part (get_or after n (view_of t s blocks 0))).rect ≡ stored_rect cfg (tile_samples t n))
       → AreCovering cfg (map part after)
@@ -159,13 +163,15 @@ module _ (t : TilingInfo) (s : State) (blocks : List Block) (cols rows : ℕ) (m
       ap (λ (p : Part ℤ). p.rect) (get_or-map part after n first no_part (omega arith)) ∙ rects n count in
       (n, omega arith, subst (λ r. IsInside r (cfg.xorigin + x) (cfg.yorigin + y)) (sym rect) inside)
 
-  -- each place inside a plane is one of some tile's samples
+  -- each place inside the luma plane is a place of some tile's samples
   pub y_covered : AreCovering s.rec.y.cfg (map (λ v. v.ts.rec.y) after)
   y_covered = parts_cover (λ v. v.ts.rec.y) s.rec.y.cfg y_held (part_rect (λ v. v.ts.rec.y) (λ n. stored_rect s.rec.y.cfg (tile_samples t n)) (λ n. refl) (λ v w h. h.y.rect))
 
+  -- The tiles cover the U plane of a state.
   pub u_covered : AreCovering s.rec.u.cfg (map (λ v. v.ts.rec.u) after)
   u_covered = parts_cover (λ v. v.ts.rec.u) s.rec.u.cfg u_held (part_rect (λ v. v.ts.rec.u) (λ n. stored_rect s.rec.u.cfg (tile_samples t n)) (λ n. refl) (λ v w h. h.u.rect))
 
+  -- The tiles cover the V plane of a state.
   pub v_covered : AreCovering s.rec.v.cfg (map (λ v. v.ts.rec.v) after)
   v_covered = parts_cover (λ v. v.ts.rec.v) s.rec.v.cfg v_held (part_rect (λ v. v.ts.rec.v) (λ n. stored_rect s.rec.v.cfg (tile_samples t n)) (λ n. refl) (λ v w h. h.v.rect))
 
@@ -177,23 +183,28 @@ module _ (p : Parameters) (s : State) (b : Rows Block) (made : IsTilingOf p.sequ
     (samples : All (λ v. AreInDepth p v.ts.rec) after)
     (bs : All (λ v. All (IsBlock (decimations_of p.sequence.chroma_sampling).0 (decimations_of p.sequence.chroma_sampling).1) v.blocks.entries) after)
     (us : All (λ v. AreUnitParts v.ts.units) after) where
+  -- The tables with the views put back have each view's content.
   has : AreCoded after (state_tables s b) (coded_tables (state_tables s b) after)
   has = coded_have (state_tables s b) after
       (tiles_lie p.sequence.tiling s b.entries b.cols b.rows made whole full after shapes)
       (tiles_apart p.sequence.tiling s b.entries b.cols b.rows made whole full after shapes)
 
+  -- The luma samples of the views are in depth.
   y_deep : All (IsPartInDepth (2 ^ p.sequence.bit_depth) s.rec.y.cfg) (map (λ v. v.ts.rec.y) after)
   y_deep = All-map (IsPartInDepth (2 ^ p.sequence.bit_depth) s.rec.y.cfg) (λ (v : View). v.ts.rec.y) after
       (λ k d l. subst (λ (cfg : PlaneConfig). IsPartInDepth (2 ^ p.sequence.bit_depth) cfg (get_or after k d).ts.rec.y) (sym (ap (λ (t : Three PlaneConfig). t.y) state.rec)) (samples k d l).y)
 
+  -- The U samples of the views are in depth.
   u_deep : All (IsPartInDepth (2 ^ p.sequence.bit_depth) s.rec.u.cfg) (map (λ v. v.ts.rec.u) after)
   u_deep = All-map (IsPartInDepth (2 ^ p.sequence.bit_depth) s.rec.u.cfg) (λ (v : View). v.ts.rec.u) after
       (λ k d l. subst (λ (cfg : PlaneConfig). IsPartInDepth (2 ^ p.sequence.bit_depth) cfg (get_or after k d).ts.rec.u) (sym (ap (λ (t : Three PlaneConfig). t.u) state.rec)) (samples k d l).u)
 
+  -- The V samples of the views are in depth.
   v_deep : All (IsPartInDepth (2 ^ p.sequence.bit_depth) s.rec.v.cfg) (map (λ v. v.ts.rec.v) after)
   v_deep = All-map (IsPartInDepth (2 ^ p.sequence.bit_depth) s.rec.v.cfg) (λ (v : View). v.ts.rec.v) after
       (λ k d l. subst (λ (cfg : PlaneConfig). IsPartInDepth (2 ^ p.sequence.bit_depth) cfg (get_or after k d).ts.rec.v) (sym (ap (λ (t : Three PlaneConfig). t.v) state.rec)) (samples k d l).v)
 
+  -- The tables with the views put back can be filtered.
   pub can_rebuild : CanRebuild p (coded_tables (state_tables s b) after)
   can_rebuild =
       let t = p.sequence.tiling in

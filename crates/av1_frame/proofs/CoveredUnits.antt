@@ -1,5 +1,5 @@
 -- The tiles of a frame cover its restoration units: where a bitstream can describe the units of each tile, it can
--- describe those that they were coded into.
+-- describe the units that the tiles were coded into.
 use Rattle.std.proofs.Common.{◌≡◌, ℕ, zero, suc, ◌+◌, ◌-◌, ◌*◌, ◌/◌, ◌%◌, ◌^◌, ◌<◌, ◌≤◌, List, length, map, All, get_or, refl, sym, ap, ◌∙◌, subst, arith}
 use Rattle.std.specs.Prelude.{slice_get}
 use Rattle.std.specs.Int.{div_ceil}
@@ -73,12 +73,13 @@ module _ (t : TilingInfo) (s : State) (b : Rows Block) (made : IsTilingOf t s b.
       some_columns zero rows k l = absurd (omega arith)
       some_columns (suc cols) rows k l = omega arith
 
+  -- The tables with the views put back have each view's units.
   units_coded : AreCoded after (state_tables s b) (coded_tables (state_tables s b) after)
   units_coded = coded_have (state_tables s b) after
       (tiles_lie t s b.entries b.cols b.rows made whole full after shapes)
       (tiles_apart t s b.entries b.cols b.rows made whole full after shapes)
 
-  -- all planes' units are ones that a bitstream can describe
+  -- a bitstream can describe all units that the tiles were coded into
   pub frame_units_are : All (λ v. AreUnitParts v.ts.units) after → AreFrameUnits (coded_tables (state_tables s b) after).units
   frame_units_are each = record {
     y = units_each s.restoration.y (λ v. v.ts.units.y) made.y_units (λ n. refl) (λ v w h. h.y_units.rect) units_coded.units.y.entries (λ k d l. (each k d l).y);

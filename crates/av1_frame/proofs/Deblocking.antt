@@ -1,4 +1,4 @@
--- The planes of a frame, lent whole, can be deblocked, and what becomes of them.
+-- The planes of a frame, lent whole, can be deblocked, and are the deblocked planes afterwards.
 use Rattle.std.proofs.Common.{◌≡◌, ℕ, ℤ, pos, ◌+◌, ◌-◌, ◌*◌, ◌/◌, ◌^◌, ◌<◌, inl, inr, List, length, map, get_or, All, Bool, true, false, refl, sym, ap, ◌∙◌, subst, arith}
 use Rattle.std.specs.Prelude.{nat_lt, ◌&&◌, ◌||◌, ◌==◌, not, if◌then◌else◌}
 use Rattle.std.proofs.lemmas.Bool.{cases_lt}
@@ -50,7 +50,7 @@ covers_blocks w h xdec ydec blocks t same wide high each = record {
   refs = λ x y lx ly. subst (λ (bs : List Block). HasReference (entry_at bs (view_step t) x y)) (sym same) (each_predicted xdec ydec blocks (y * view_step t + x) each);
 }
 
--- the table that a view of all blocks is
+-- a view of all blocks shows the frame's table of blocks
 pub table_is : (p : Parameters) (blocks : List Block) (entries : List Block) (step : ℕ) → entries ≡ blocks → step ≡ p.w_in_b
     → record { entries = entries; step = step } ≡ block_table p blocks
 table_is p blocks entries step same wide = λ i. record { entries = same i; step = wide i }
@@ -105,7 +105,7 @@ module _ {X : Type 0} (number : X → ℤ) (p : Parameters) (pli : ℕ) (plane :
         range = lent_depth made;
       }
 
-  -- what it becomes
+  -- a plane that was deblocked in its region is the deblocked plane
   pub deblocked_is : (planes : ℕ) (d : DeblockState) (blocks : List Block) (t : BlockTable) (b : PlaneRegionMut X) → planes ≡ plane_count p.sequence.chroma_sampling → t ≡ block_table p blocks
       → IsDeblockedInFrame number (deblocking d t (frame_shape p.width p.height p.sequence.bit_depth)) planes pli r b
       → view_plane number b.plane.now ≡ deblocked_in p d blocks pli (view_plane number plane)
@@ -133,7 +133,7 @@ module _ {X : Type 0} (number : X → ℤ) (p : Parameters) (pli : ℕ) (plane :
       by_flat true = refl
       by_flat false = refl
 
-  -- it is in depth again
+  -- a plane that was deblocked in its region is in depth again
   pub deblocked_range : (planes : ℕ) (d : DeblockState) (t : BlockTable) (b : PlaneRegionMut X)
       → IsDeblockedInFrame number (deblocking d t (frame_shape p.width p.height p.sequence.bit_depth)) planes pli r b
       → IsPlaneFor p pli (view_plane number plane) → IsPlaneFor p pli (view_plane number b.plane.now)
@@ -159,7 +159,7 @@ module _ {X : Type 0} (number : X → ℤ) (p : Parameters) (pli : ℕ) (plane :
             subst (InDepth (2 ^ p.sequence.bit_depth)) read (deep.each x y (omega arith) (omega arith)));
       }
 
--- the planes of a frame that are deblocked are a frame for the same parameters
+-- a deblocked frame is an input for the parameters of the frame
 pub deblocked_input : (p : Parameters) (f g : Three PlaneView) (d : DeblockState) (blocks : List Block) → IsInputFor p f → g ≡ deblocked p d blocks f
     → IsPlaneFor p 0 g.y → IsPlaneFor p 1 g.u → IsPlaneFor p 2 g.v → IsInputFor p g
 deblocked_input p f g d blocks i same y u v = record {

@@ -18,6 +18,7 @@ coder_result T m v w (Ok bytes) a b c = (a, b)
 coder_result T m v w (Err e) a b c = λ is. c (ap (λ (e : CodeError). Err e) is)
 
 module _ {T C : Type 0} (meaning : C → View → Option (List ℕ × View)) where
+  -- A delivered result is what may lie at home in the slot of its tile.
   pub done_at : (about : About T C) (n : ℕ) (c : C) (v w : View) (r : Result (Vec ℕ Global) CodeError) → c ≡ about.coder → get_elem? about.starts n ≡ some v
       → IfOk r (λ bytes. meaning c v ≡ Some (bytes.items, w)) → OnOk r (SameShape v w) → (r ≡ Err Refused → meaning c v ≡ None)
       → AtHome meaning about n 3 (Done (record { coded = r; view = w }))
@@ -26,6 +27,7 @@ module _ {T C : Type 0} (meaning : C → View → Option (List ℕ × View)) whe
     done = λ _. (record { coded = r; view = w }, refl, (v, at, subst (λ (c : C). IsResult {T = T} (meaning c v) v (record { coded = r; view = w })) same (coder_result T (meaning c v) v w r a b d)));
   }
 
+-- The value in the first of the slots that a seat has out, or a default.
 abbrev value : {S : Type 0} → S → List (ℕ × S) → S
 value d [] = d
 value d (p ∷ ps) = p.1
@@ -45,9 +47,11 @@ module _ {S V : Type 0} (n : ℕ) where
   worked m0 m1 m2 m4 d1 x out done empty a b c =
       c ∙ (ap (λ (m : Me S V). (m.0, (n, done) ∷ rest m.1)) b ∙ (ap (λ (m : Me S V). (m.0, (n, done) ∷ rest m.1)) a ∙ ap (λ (l : List (ℕ × S)). (d1, (n, done) ∷ l)) empty))
 
+-- The view that a slot's starting place holds, or a default.
 abbrev started : {T : Type 0} → View → Place T → View
 started v (Start w) = w
 started v _ = v
 
+-- Two starting places that are equal hold equal views.
 pub same_start : {T : Type 0} (v w : View) → ◌≡◌ {A = Place T} (Start v) (Start w) → v ≡ w
 same_start {T} v w e = ap (λ (p : Place T). started v p) e

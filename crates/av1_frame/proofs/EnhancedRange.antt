@@ -22,29 +22,29 @@ use Rattle.av1_cdef.specs.Whole.{view_picture, whole_frame, in_picture, with_pic
 
 -- One sample.
 
--- a sample that a plane has is in depth
+-- a sample, if the plane has it, is in depth
 abbrev IsDeepTap : ℕ → Option ℤ → Type 0
 IsDeepTap bound None = Unit {0}
 IsDeepTap bound (Some v) = InDepth bound v
 
--- so is each tap's
+-- the samples of all taps are below a bound
 abbrev AreDeepTaps : ℕ → List Tap → Type 0
 AreDeepTaps bound [] = Unit {0}
 AreDeepTaps bound (t ∷ ts) = IsDeepTap bound t.sample × AreDeepTaps bound ts
 
--- the lesser of two
+-- the lesser of two numbers in depth is in depth
 least_deep : (bound : ℕ) (a b : ℤ) → InDepth bound a → InDepth bound b → InDepth bound (int_min a b)
 least_deep bound a b ha hb = let a0 = ha.0 in let a1 = ha.1 in let b0 = hb.0 in let b1 = hb.1 in (grind (arith, ints), grind (arith, ints))
 
--- the greater of two
+-- the greater of two numbers in depth is in depth
 greatest_deep : (bound : ℕ) (a b : ℤ) → InDepth bound a → InDepth bound b → InDepth bound (int_max a b)
 greatest_deep bound a b ha hb = let a0 = ha.0 in let a1 = ha.1 in let b0 = hb.0 in let b1 = hb.1 in (grind (arith, ints), grind (arith, ints))
 
--- any number, kept between two
+-- a number that is kept between two numbers in depth is in depth
 between_deep : (bound : ℕ) (z l g : ℤ) → InDepth bound l → InDepth bound g → InDepth bound (int_min (int_max z l) g)
 between_deep bound z l g hl hg = let l0 = hl.0 in let l1 = hl.1 in let g0 = hg.0 in let g1 = hg.1 in (grind (arith, ints), grind (arith, ints))
 
--- the least of taps
+-- the least over taps in depth is in depth
 least_taps : (bound : ℕ) (least : ℤ) (ts : List Tap) → InDepth bound least → AreDeepTaps bound ts → InDepth bound (least_of_taps least ts)
 least_taps bound least [] h each = h
 least_taps bound least (t ∷ ts) h each = least_taps bound (least_with least t.sample) ts (with_one t.sample each.0) each.1
@@ -53,7 +53,7 @@ least_taps bound least (t ∷ ts) h each = least_taps bound (least_with least t.
     with_one None d = h
     with_one (Some v) d = least_deep bound least v h d
 
--- the greatest of taps
+-- the greatest over taps in depth is in depth
 greatest_taps : (bound : ℕ) (greatest : ℤ) (ts : List Tap) → InDepth bound greatest → AreDeepTaps bound ts → InDepth bound (greatest_of_taps greatest ts)
 greatest_taps bound greatest [] h each = h
 greatest_taps bound greatest (t ∷ ts) h each = greatest_taps bound (greatest_with greatest t.sample) ts (with_one t.sample each.0) each.1
@@ -63,11 +63,11 @@ greatest_taps bound greatest (t ∷ ts) h each = greatest_taps bound (greatest_w
     with_one (Some v) d = greatest_deep bound greatest v h d
 
 module _ (bound : ℕ) (around : ℕ → ℕ → Option ℤ) (deep : (r c : ℕ) → IsDeepTap bound (around r c)) (s : Settings) where
-  -- all taps at one distance
+  -- the taps at one distance have samples below the bound
   at_deep : (k : ℕ) (rest : List Tap) → AreDeepTaps bound rest → AreDeepTaps bound (taps_at around s k rest)
   at_deep k rest h = (deep _ _, (deep _ _, (deep _ _, (deep _ _, (deep _ _, (deep _ _, h))))))
 
-  -- a filtered sample
+  -- a filtered sample is in depth
   near_deep : (x : ℤ) → InDepth bound x → InDepth bound (filtered_near around s x)
   near_deep x h =
       let taps = at_deep 0 (taps_at around s 1 []) (at_deep 1 [] tt) in
@@ -76,13 +76,13 @@ module _ (bound : ℕ) (around : ℕ → ℕ → Option ℤ) (deep : (r c : ℕ)
 -- A plane.
 
 module _ (bound : ℕ) (p : PlaneView) (range : IsInRange bound p) where
-  -- a sample of the picture
+  -- a sample of the picture is in depth
   picture_deep : (x y : ℕ) → x < p.cfg.width → y < p.cfg.height → InDepth bound (sample_at (view_picture p) x y)
   picture_deep x y lx ly =
       let place : (p.cfg.yorigin + y) * p.cfg.stride + (p.cfg.xorigin + x) ≡ p.cfg.yorigin * p.cfg.stride + p.cfg.xorigin + y * p.cfg.stride + x = grind arith in
       subst (λ (k : ℕ). InDepth bound (get_or p.samples k (pos 0))) place (range x y lx ly)
 
-  -- a sample near one
+  -- a sample near another one is below the bound
   around_deep : (x y r c : ℕ) → IsDeepTap bound (near (view_picture p) x y r c)
   around_deep x y r c = by (nat_le 2 (x + c) && nat_lt (x + c) (p.cfg.width + 2) && (nat_le 2 (y + r) && nat_lt (y + r) (p.cfg.height + 2))) refl
     where
@@ -96,7 +96,7 @@ module _ (bound : ℕ) (p : PlaneView) (range : IsInRange bound p) where
           picture_deep (x + c - 2) (y + r - 2) (omega arith) (omega arith)
       by false e = tt
 
-  -- a sample after CDEF
+  -- a sample after CDEF is in depth
   cdef_deep : (d : Deblocked) (pli x y : ℕ) → x < p.cfg.width → y < p.cfg.height
       → InDepth bound (cdef d (record { pli = pli; xdec = p.cfg.xdec; ydec = p.cfg.ydec; picture = view_picture p }) x y)
   unfolding cdef block_cdef
@@ -114,7 +114,7 @@ module _ (bound : ℕ) (p : PlaneView) (range : IsInRange bound p) where
 abbrev picked : PlaneConfig → (ℕ → ℕ → ℤ) → ℕ → ℤ → ℤ
 picked cfg value n old = if in_picture cfg n then value (n % cfg.stride - cfg.xorigin) (n / cfg.stride - cfg.yorigin) else old
 
--- an entry of such a list is the picture's or the old one
+-- an entry of a list with a picture in it is the picture's or the old one
 one_of : (cfg : PlaneConfig) (value : ℕ → ℕ → ℤ) (k : ℕ) (xs : List ℤ) (i : ℕ) → i < length xs → get_or (with_picture cfg value k xs) i (pos 0) ≡ picked cfg value (k + i) (get_or xs i (pos 0))
 unfolding with_picture
 one_of cfg value k [] i l = absurd (omega arith)
@@ -123,13 +123,13 @@ one_of cfg value k (x ∷ xs) (suc i) l =
     let e : suc k + i ≡ k + suc i = omega arith in
     one_of cfg value (suc k) xs i (omega arith) ∙ ap (λ (n : ℕ). picked cfg value n (get_or xs i (pos 0))) e
 
--- as many samples as before
+-- a list with a picture in it is as long as before
 long_picture : (cfg : PlaneConfig) (value : ℕ → ℕ → ℤ) (k : ℕ) (xs : List ℤ) → length (with_picture cfg value k xs) ≡ length xs
 unfolding with_picture
 long_picture cfg value k [] = refl
 long_picture cfg value k (x ∷ xs) = ap suc (long_picture cfg value (suc k) xs)
 
--- a picture in depth, put into a plane
+-- a plane into which a picture in depth is put is in depth
 with_deep : (bound : ℕ) (p : PlaneView) (value : ℕ → ℕ → ℤ) → p.cfg.xorigin + p.cfg.width ≤ p.cfg.stride → 0 < bound
     → ((x y : ℕ) → x < p.cfg.width → y < p.cfg.height → InDepth bound (value x y)) → IsInRange bound (record { cfg = p.cfg; samples = with_picture p.cfg value 0 p.samples })
 with_deep bound p value wide some deep x y lx ly =
@@ -154,13 +154,13 @@ with_deep bound p value wide some deep x y lx ly =
           subst (InDepth bound) (sym none) (omega (arith, ints), omega (arith, ints))
     ]
 
--- a plane after CDEF
+-- a plane after CDEF is in depth
 cdef_range : (depth : ℕ) (d : Deblocked) (pli : ℕ) (p : PlaneView) → p.cfg.xorigin + p.cfg.width ≤ p.cfg.stride → IsInRange (2 ^ depth) p → IsInRange (2 ^ depth) (cdef_plane d pli p)
 unfolding cdef_plane
 cdef_range depth d pli p wide range =
     with_deep (2 ^ depth) p (cdef d (record { pli = pli; xdec = p.cfg.xdec; ydec = p.cfg.ydec; picture = view_picture p })) wide (pow_pos depth) (cdef_deep (2 ^ depth) p range d pli)
 
--- a frame after CDEF is a frame for the same parameters
+-- a frame after CDEF is an input for the parameters of the frame
 pub cdef_input : (p : Parameters) (blocks : List Block) (f : Three PlaneView) → f.y.cfg.xorigin + f.y.cfg.width ≤ f.y.cfg.stride → f.u.cfg.xorigin + f.u.cfg.width ≤ f.u.cfg.stride
     → f.v.cfg.xorigin + f.v.cfg.width ≤ f.v.cfg.stride → IsInputFor p f → IsInputFor p (cdef_frame p blocks f)
 cdef_input p blocks f wide_y wide_u wide_v i =

@@ -1,4 +1,4 @@
--- A copy of a deblocked frame, lent plane by plane, can be filtered by CDEF, and what becomes of it.
+-- A copy of a deblocked frame, lent plane by plane, can be filtered by CDEF into the enhanced frame.
 use Rattle.std.proofs.Common.{◌≡◌, ℕ, ℤ, ◌+◌, ◌-◌, ◌*◌, ◌/◌, ◌^◌, ◌<◌, ◌≤◌, inl, inr, List, length, map, get_or, All, refl, sym, ap, ◌∙◌, subst, arith}
 use Rattle.std.proofs.lemmas.Bool.{cases_lt}
 use Rattle.std.proofs.lemmas.List.{get_or_past}
@@ -32,7 +32,7 @@ each_index xdec ydec blocks k h = elim (cases_lt k (length blocks)) [
   | inr past ↦ subst (λ (b : Block). b.cdef_index ≤ 7) (sym (get_or_past blocks k default_block past)) (omega arith)
 ]
 
--- the blocks of the whole table have one
+-- the blocks of the whole table have an index of strengths
 pub has_indices : (xdec ydec : ℕ) (blocks : List Block) (t : TileBlocks) → view_entries t ≡ blocks → All (IsBlock xdec ydec) blocks → HasIndices t
 has_indices xdec ydec blocks t same each = record {
   each = λ x y lx ly. subst (λ (bs : List Block). (entry_at bs (view_step t) x y).cdef_index ≤ 7) (sym same) (each_index xdec ydec blocks (y * view_step t + x) each);
@@ -55,7 +55,7 @@ room_lent w h p q b r same made lent ec er =
     let down : 4 * view_rows b / 2 ^ p.cfg.ydec ≡ rounded h / 2 ^ p.cfg.ydec = ap (λ (n : ℕ). n / 2 ^ p.cfg.ydec) (ap (λ (n : ℕ). 4 * n) er ∙ rows) in
     record { stored = lent.stored; width = omega arith; height = omega arith }
 
--- and lies on the plane
+-- a plane that is lent from its origin on lies on the plane's samples
 lies_lent : {X : Type 0} (number : X → ℤ) (w h : ℕ) (p q : Plane X) (r : PlaneRegionMut X) → SamePlane p q → (0 < p.cfg.width → IsPlaneLayout w h p.cfg) → LendsPlane q r → LiesOn number p r
 lies_lent number w h p q r same made lent = record {
   start = λ some.
@@ -80,7 +80,7 @@ module _ {X : Type 0} (number : X → ℤ) (limit : ℕ) (params : Parameters) (
     v = λ some. room_lent params.width params.height f.planes.v v b t.planes.v same_v (v_made number limit params f h i some) lent_v (ec ∙ h.columns) (er ∙ h.rows);
   }
 
-  -- and are the whole frame
+  -- three planes that are copies of a frame's are the whole frame
   pub whole_lent : view_step b ≡ params.w_in_b → IsWholeFrame number params f b t
   whole_lent es = record {
     cols = ec;
@@ -104,7 +104,7 @@ enhanced_is number d pli p q a b same lent part left =
     part.layout ∙ (ap (λ (z : Plane _). z.cfg) lent.plane ∙ (same.cfg ∙ sym (cdef_cfg d pli (view_plane number p)))) in
     λ i. record { cfg = cfg i; samples = left i }
 
--- a copy of a frame has the same planes
+-- a copy of a frame has the planes of the frame
 pub copy_is : {X : Type 0} (number : X → ℤ) (f g : Frame X) → SameFrame f g → view_frame number g ≡ view_frame number f
 copy_is number f g same = λ i. record {
   y = record { cfg = same.y.cfg i; samples = map number (same.y.samples i) };

@@ -20,14 +20,14 @@ little_endian-next count i n l =
     let more : count - i ≡ suc (count - (i + 1)) = omega arith in
     ap (λ (k : ℕ). little_endian k n) more
 
--- one byte more
+-- one byte more of a number is written
 pub bytes_more : (count i n rest : ℕ) (bytes : List ℕ) → i < count → bytes ++ little_endian (count - i) rest ≡ little_endian count n
     → (bytes ++ rest % 256 ∷ []) ++ little_endian (count - (i + 1)) (rest / 256) ≡ little_endian count n
 bytes_more count i n rest bytes l e =
     append_assoc bytes (rest % 256 ∷ []) (little_endian (count - (i + 1)) (rest / 256))
     ∙ (ap (λ (xs : List ℕ). bytes ++ xs) (sym (little_endian-next count i rest l)) ∙ e)
 
--- no byte is left
+-- after the last byte the number is written
 pub bytes_done : (count i n rest : ℕ) (bytes : List ℕ) → count ≤ i → bytes ++ little_endian (count - i) rest ≡ little_endian count n → bytes ≡ little_endian count n
 unfolding little_endian
 bytes_done count i n rest bytes l e =
@@ -36,11 +36,13 @@ bytes_done count i n rest bytes l e =
     let all : bytes ++ [] ≡ bytes = search rules in
     sym all ∙ (ap (λ (xs : List ℕ). bytes ++ xs) (sym left) ∙ e)
 
+-- A number in `count` bytes has `count` bytes.
 length-little_endian : (count n : ℕ) → length (little_endian count n) ≡ count
 unfolding little_endian
 length-little_endian zero n = refl
 length-little_endian (suc count) n = let more = length-little_endian count (n / 256) in omega arith
 
+-- A number that fits its bytes is read back from them.
 number_of-little_endian : (count n : ℕ) → n < 256 ^ count → number_of (little_endian count n) ≡ n
 unfolding little_endian number_of
 number_of-little_endian zero n l = let one : 256 ^ zero ≡ 1 = refl in omega arith
@@ -49,14 +51,16 @@ number_of-little_endian (suc count) n l =
     let more : number_of (little_endian count (n / 256)) ≡ n / 256 = number_of-little_endian count (n / 256) (omega arith) in
     omega arith
 
--- each is a byte
+-- each number of a list is a byte
 abbrev pub AreBytes : List ℕ → Type 0
 AreBytes bytes = All (λ byte. byte < 256) bytes
 
+-- A list whose entries are all below 256 is a list of bytes.
 pub bytes_from : (bytes : List ℕ) → ((i : ℕ) → get_or bytes i 0 < 256) → AreBytes bytes
 bytes_from [] each = All-nil (λ b. b < 256)
 bytes_from (byte ∷ bytes) each = All-cons (λ b. b < 256) byte bytes (each 0) (bytes_from bytes (λ i. each (suc i)))
 
+-- The number in n bytes is below 256 ^ n.
 pub number_of-bound : (bytes : List ℕ) → AreBytes bytes → number_of bytes < 256 ^ length bytes
 unfolding number_of
 number_of-bound [] each = omega arith
@@ -66,6 +70,7 @@ number_of-bound (byte ∷ bytes) each =
     let power : 256 ^ suc (length bytes) ≡ 256 * 256 ^ length bytes = pow-succ' 256 (length bytes) in
     omega arith
 
+-- Bytes are written back from the number that they are.
 little_endian-number_of : (bytes : List ℕ) → AreBytes bytes → little_endian (length bytes) (number_of bytes) ≡ bytes
 unfolding little_endian number_of
 little_endian-number_of [] each = refl
@@ -76,21 +81,23 @@ little_endian-number_of (byte ∷ bytes) each =
     (λ i. low i ∷ little_endian (length bytes) (high i))
     ∙ ap (λ (xs : List ℕ). byte ∷ xs) (little_endian-number_of bytes (All-tail (λ b. b < 256) byte bytes each))
 
+-- No bytes are the number 0.
 pub number_of-nil : number_of [] ≡ 0
 unfolding number_of
 number_of-nil = refl
 
+-- The first byte is the lowest one of the number that bytes are.
 pub number_of-cons : (byte : ℕ) (bytes : List ℕ) → number_of (byte ∷ bytes) ≡ byte + 256 * number_of bytes
 unfolding number_of
 number_of-cons byte bytes = refl
 
--- a number of at most three bytes
+-- a number of at most three bytes is below 2^24
 pub three_bytes : (n count : ℕ) → n < 256 ^ count → count ≤ 3 → n < 16777216
 three_bytes n count l few =
     let most : 256 ^ count ≤ 256 ^ 3 = pow-le-pow_right {n = 256} (omega arith) few in
     omega arith
 
--- one of at most four
+-- a number of at most four bytes is below 2^32
 pub four_bytes : (n count : ℕ) → n < 256 ^ count → count ≤ 4 → n < 4294967296
 four_bytes n count l few =
     let most : 256 ^ count ≤ 256 ^ 4 = pow-le-pow_right {n = 256} (omega arith) few in
@@ -98,7 +105,7 @@ four_bytes n count l few =
 
 -- Writing.
 
--- all tiles but the last, and the last
+-- a list of tiles is framed as all but the last behind their sizes, and the last
 sized-last : (count : ℕ) (tiles : List (List ℕ)) (last : List ℕ) → sized count (tiles ++ last ∷ []) ≡ flat_map (with_size count) tiles ++ last
 unfolding sized
 sized-last count [] last = refl
@@ -114,6 +121,7 @@ abbrev pub flags : {A : Type 0} → List A → List ℕ
 flags [] = []
 flags (tile ∷ tiles) = 0 ∷ []
 
+-- A tile group is the flags, each tile but the last behind its size, and the last tile.
 pub framed-last : (count : ℕ) (tiles : List (List ℕ)) (last : List ℕ) → framed_with count (tiles ++ last ∷ []) ≡ (flags tiles ++ flat_map (with_size count) tiles) ++ last
 unfolding framed_with
 framed-last count [] last = refl
@@ -122,14 +130,14 @@ framed-last count (tile ∷ next ∷ tiles) last = ap (λ (xs : List ℕ). 0 ∷
 
 -- Reading.
 
--- too few bytes for another tile
+-- a tile isn't read where too few bytes are left
 pub parsed-short : (count others : ℕ) (bytes : List ℕ) → length bytes < count + next_size count bytes → parsed count (suc others) bytes ≡ None
 unfolding parsed
 parsed-short count others bytes l =
     let test : nat_lt (length bytes) (count + next_size count bytes) ≡ true = grind (arith, nat_tests) in
     rw test refl
 
--- enough of them
+-- a tile is read where enough bytes are left
 pub parsed-next : (count others : ℕ) (bytes : List ℕ) → count + next_size count bytes ≤ length bytes
     → parsed count (suc others) bytes ≡ option_map (λ tiles. take (next_size count bytes) (drop count bytes) ∷ tiles) (parsed count others (drop (next_size count bytes) (drop count bytes)))
 unfolding parsed
@@ -137,10 +145,12 @@ parsed-next count others bytes l =
     let test : nat_lt (length bytes) (count + next_size count bytes) ≡ false = grind (arith, nat_tests) in
     rw test refl
 
+-- A last tile without bytes isn't read.
 pub parsed-empty : (count : ℕ) (bytes : List ℕ) → length bytes ≡ 0 → parsed count 0 bytes ≡ None
 unfolding parsed
 parsed-empty count bytes e = rw e refl
 
+-- The bytes that are left after all other tiles are the last tile.
 pub parsed-rest : (count : ℕ) (bytes : List ℕ) → length bytes ≢ 0 → parsed count 0 bytes ≡ Some (bytes ∷ [])
 unfolding parsed
 parsed-rest count bytes some =
@@ -184,14 +194,16 @@ parsed-sized count tile (next ∷ tiles) filled fits =
         → (k : ℕ) → k + 1 < length ts → length (get_or ts k []) ≤ 256 ^ c
     more_fits c t ts h k l = h (suc k) (omega arith)
 
--- What is read is a list that is framed so.
+-- A list of tiles that is read is framed as the bytes that it was read from.
 
+-- tiles that were read from bytes: how many they are, that none is empty, and that they are framed so
 record IsParsed (count others : ℕ) (bytes : List ℕ) (tiles : List (List ℕ)) : Type 0 where
   pub number : length tiles ≡ others + 1
   pub filled : All (λ tile. 1 ≤ length tile) tiles
   pub fits : (k : ℕ) → k + 1 < length tiles → length (get_or tiles k []) ≤ 256 ^ count
   pub framed : sized count tiles ≡ bytes
 
+-- A single tile is read as the list of this tile.
 one_parsed : (count : ℕ) (bytes : List ℕ) → length bytes ≢ 0 → IsParsed count 0 bytes (bytes ∷ [])
 unfolding sized
 one_parsed count bytes some = record {
@@ -201,6 +213,7 @@ one_parsed count bytes some = record {
   framed = refl;
 }
 
+-- One tile more before a list that was read is a list that was read.
 more_parsed : (count others : ℕ) (bytes : List ℕ) (tiles : List (List ℕ)) → AreBytes bytes → count + next_size count bytes ≤ length bytes
     → IsParsed count others (drop (next_size count bytes) (drop count bytes)) tiles
     → IsParsed count (suc others) bytes (take (next_size count bytes) (drop count bytes) ∷ tiles)
@@ -232,7 +245,7 @@ more_parsed count others bytes (next ∷ tiles) each room h =
     fits_more c t ts small h zero l = small
     fits_more c t ts small h (suc k) l = h k (omega arith)
 
--- by the test for the last tile
+-- the last tile that is read is the bytes that are left
 last_parsed : (count : ℕ) (bytes : List ℕ) (tiles : List (List ℕ)) (b : Bool) → (length bytes == 0) ≡ b → parsed count 0 bytes ≡ Some tiles → IsParsed count 0 bytes tiles
 last_parsed count bytes tiles true test e = absurd (none-some tiles (sym (parsed-empty count bytes (grind (arith, nat_tests))) ∙ e))
 last_parsed count bytes tiles false test e =
@@ -241,7 +254,7 @@ last_parsed count bytes tiles false test e =
     let same : bytes ∷ [] ≡ tiles = cc in
     subst (IsParsed count 0 bytes) same (one_parsed count bytes some)
 
--- by the room for another tile and by what follows it
+-- a tile that is read before others is framed with them
 next_parsed : (count others : ℕ) (bytes : List ℕ) (tiles : List (List ℕ)) (b : Bool) (o : Option (List (List ℕ))) → AreBytes bytes
     → nat_lt (length bytes) (count + next_size count bytes) ≡ b → parsed count others (drop (next_size count bytes) (drop count bytes)) ≡ o
     → ((more : List (List ℕ)) → o ≡ Some more → IsParsed count others (drop (next_size count bytes) (drop count bytes)) more)
@@ -257,6 +270,7 @@ next_parsed count others bytes tiles false (Some more) each test rest h e =
     let same : take (next_size count bytes) (drop count bytes) ∷ more ≡ tiles = cc in
     subst (IsParsed count (suc others) bytes) same (more_parsed count others bytes more each room (h more refl))
 
+-- A list that was read has the asked number of tiles, none empty, and gives the bytes when framed.
 parsed_is : (count others : ℕ) (bytes : List ℕ) (tiles : List (List ℕ)) → AreBytes bytes → parsed count others bytes ≡ Some tiles → IsParsed count others bytes tiles
 parsed_is count zero bytes tiles each e = last_parsed count bytes tiles (length bytes == 0) refl e
 parsed_is count (suc others) bytes tiles each e =
@@ -269,7 +283,7 @@ parsed_is count (suc others) bytes tiles each e =
 
 -- What the loops of writing and reading keep.
 
--- one tile more behind its size
+-- one tile more is framed behind its size
 pub sized_more : {X : Type 0} (items : X → List ℕ) (count i : ℕ) (tiles : List X) (tile : X) (start group middle end size : List ℕ) → i < length tiles → tile ≡ get_or tiles i tile
     → group ≡ start ++ flat_map (with_size count) (map items (take i tiles)) → middle ≡ group ++ size → size ≡ little_endian count (length (items tile) - 1) → end ≡ middle ++ items tile
     → end ≡ start ++ flat_map (with_size count) (map items (take (i + 1) tiles))
@@ -296,7 +310,7 @@ filled_front items tiles others last e h k d l =
     get_or-map items tiles k d (items d) (omega arith) ∙ ap items (ap (λ xs. get_or xs k d) e ∙ get_or_append_left others (last ∷ []) d k l) in
     subst (λ (t : List ℕ). 1 ≤ length t) at (h k (items d) (omega arith))
 
--- the bytes of a group from those of its tiles
+-- the bytes of a group are the flags, all tiles but the last behind their sizes, and the last tile
 pub framed_is : {X : Type 0} (items : X → List ℕ) (count : ℕ) (tiles others : List X) (last : X) (group : List ℕ) → tiles ≡ others ++ last ∷ []
     → group ≡ (flags others ++ flat_map (with_size count) (map items others)) ++ items last → group ≡ framed_with count (map items tiles)
 framed_is {X = X} items count tiles others last group e written =
@@ -309,11 +323,12 @@ framed_is {X = X} items count tiles others last group e written =
     mapped [] = refl
     mapped (t ∷ ts) = refl
 
+-- A list without bytes is the number 0.
 pub number_of-empty : (bytes : List ℕ) → length bytes ≡ 0 → 0 ≡ number_of bytes
 number_of-empty [] e = sym number_of-nil
 number_of-empty (byte ∷ bytes) e = absurd (omega arith)
 
--- a tile before those that follow
+-- a tile before tiles that follow may count to the tiles before
 twice : (list : List (List ℕ)) (tile : List ℕ) (o : Option (List (List ℕ))) → option_map (λ more. list ++ more) (option_map (λ more. tile ∷ more) o) ≡ option_map (λ more. (list ++ tile ∷ []) ++ more) o
 twice list tile None = refl
 twice list tile (Some more) = ap (λ xs. Some xs) (sym (append_assoc list (tile ∷ []) more))
@@ -328,7 +343,7 @@ read_more count n i list bytes l room =
     ∙ (ap (λ (o : Option (List (List ℕ))). option_map (λ more. list ++ more) o) (parsed-next count (n - (i + 1)) bytes room)
     ∙ twice list (take (next_size count bytes) (drop count bytes)) (parsed count (n - (i + 1)) (drop (next_size count bytes) (drop count bytes))))
 
--- no further tile can be read
+-- reading fails where too few bytes are left for the next tile
 pub read_short : (count n i : ℕ) (list : List (List ℕ)) (bytes : List ℕ) → i < n → length bytes < count + next_size count bytes
     → option_map (λ more. list ++ more) (parsed count (n - i) bytes) ≡ None
 read_short count n i list bytes l short =
@@ -336,7 +351,7 @@ read_short count n i list bytes l short =
     ap (λ (k : ℕ). option_map (λ more. list ++ more) (parsed count k bytes)) more
     ∙ ap (λ (o : Option (List (List ℕ))). option_map (λ more. list ++ more) o) (parsed-short count (n - (i + 1)) bytes short)
 
--- the last tile
+-- the bytes that are left are read as the last tile
 pub read_last : (count n i : ℕ) (list : List (List ℕ)) (bytes : List ℕ) → n ≤ i → length bytes ≢ 0
     → option_map (λ more. list ++ more) (parsed count (n - i) bytes) ≡ Some (list ++ bytes ∷ [])
 read_last count n i list bytes l some =
@@ -344,6 +359,7 @@ read_last count n i list bytes l some =
     ap (λ (k : ℕ). option_map (λ more. list ++ more) (parsed count k bytes)) none
     ∙ ap (λ (o : Option (List (List ℕ))). option_map (λ more. list ++ more) o) (parsed-rest count bytes some)
 
+-- Reading fails where no bytes are left for the last tile.
 pub read_none : (count n i : ℕ) (list : List (List ℕ)) (bytes : List ℕ) → n ≤ i → length bytes ≡ 0
     → option_map (λ more. list ++ more) (parsed count (n - i) bytes) ≡ None
 read_none count n i list bytes l empty =
@@ -353,18 +369,21 @@ read_none count n i list bytes l empty =
 
 -- A group is read back, and nothing else is read.
 
+-- The framed tiles behind a group's flags are read back as the tiles.
 can_read : (count others : ℕ) (tiles : List (List ℕ)) → length tiles ≡ others + 1 → CanFrame count tiles → parsed count others (sized count tiles) ≡ Some tiles
 can_read count others [] e can = absurd (omega arith)
 can_read count others (tile ∷ tiles) e can =
     let same : length tiles ≡ others = omega arith in
     ap (λ (k : ℕ). parsed count k (sized count (tile ∷ tiles))) (sym same) ∙ parsed-sized count tile tiles can.filled can.fits
 
+-- A group of one tile is the tile alone.
 framed-one : (count : ℕ) (tiles : List (List ℕ)) → length tiles ≡ 1 → framed_with count tiles ≡ sized count tiles
 unfolding framed_with sized
 framed-one count [] e = refl
 framed-one count (tile ∷ []) e = refl
 framed-one count (tile ∷ next ∷ tiles) e = absurd (omega arith)
 
+-- A group of several tiles is a byte of flags and the tiles behind their sizes.
 framed-several : (count : ℕ) (tiles : List (List ℕ)) → 2 ≤ length tiles → framed_with count tiles ≡ 0 ∷ sized count tiles
 unfolding framed_with
 framed-several count [] l = absurd (omega arith)
@@ -381,7 +400,7 @@ reads_framed count (tile ∷ next ∷ tiles) can =
     let left : length ts - 1 ≡ length (next ∷ tiles) = omega arith in
     rw test ((λ i. behind_flags count (left i) (framed-several count ts (omega arith) i)) ∙ can_read count (length (next ∷ tiles)) ts (omega arith) can)
 
--- what is read was framed
+-- a single tile that was read is framed as its bytes
 one_framed : (count : ℕ) (bytes : List ℕ) (tiles : List (List ℕ)) → AreBytes bytes → parsed count 0 bytes ≡ Some tiles → IsFramedAs count 1 bytes tiles
 one_framed count bytes tiles each e =
     let read = parsed_is count 0 bytes tiles each e in
@@ -392,6 +411,7 @@ one_framed count bytes tiles each e =
       group = framed-one count tiles one ∙ read.framed;
     }
 
+-- Several tiles that were read behind flags of 0 are framed as the flags and the bytes.
 several_framed : (count others : ℕ) (bytes : List ℕ) (tiles : List (List ℕ)) → 1 ≤ others → AreBytes bytes → parsed count others bytes ≡ Some tiles → IsFramedAs count (others + 1) (0 ∷ bytes) tiles
 several_framed count others bytes tiles some each e =
     let read = parsed_is count others bytes tiles each e in
@@ -402,7 +422,7 @@ several_framed count others bytes tiles some each e =
       group = framed-several count tiles (omega arith) ∙ ap (λ (xs : List ℕ). 0 ∷ xs) read.framed;
     }
 
--- by the flags
+-- tiles that are read behind flags are framed with the flags
 by_flags : (count others : ℕ) (flag : ℕ) (bytes : List ℕ) (tiles : List (List ℕ)) (b : Bool) → 1 ≤ others → AreBytes (flag ∷ bytes) → (flag == 0) ≡ b
     → (if b then parsed count others bytes else None) ≡ Some tiles → IsFramedAs count (others + 1) (flag ∷ bytes) tiles
 by_flags count others flag bytes tiles false some each test e = absurd (none-some tiles e)
@@ -411,7 +431,7 @@ by_flags count others flag bytes tiles true some each test e =
     subst (λ (f : ℕ). IsFramedAs count (others + 1) (f ∷ bytes) tiles) zero_flag
     (several_framed count others bytes tiles some (All-tail (λ b. b < 256) flag bytes each) e)
 
--- by the number of tiles
+-- tiles that are read, by their number, are framed as the bytes
 by_number : (count number : ℕ) (bytes : List ℕ) (tiles : List (List ℕ)) (b : Bool) → 1 ≤ number → AreBytes bytes → (number == 1) ≡ b
     → (if b then parsed count 0 bytes else behind_flags count (number - 1) bytes) ≡ Some tiles → IsFramedAs count number bytes tiles
 by_number count number bytes tiles true some each test e =
@@ -424,16 +444,17 @@ by_number count number (flag ∷ bytes) tiles false some each test e =
     subst (λ (n : ℕ). IsFramedAs count n (flag ∷ bytes) tiles) all
     (by_flags count (number - 1) flag bytes tiles (flag == 0) (omega arith) each refl e)
 
+-- Tiles that were read from a group's bytes are framed as these bytes.
 pub framed_as_read : (count number : ℕ) (bytes : List ℕ) (tiles : List (List ℕ)) → 1 ≤ number → AreBytes bytes → group_tiles count number bytes ≡ Some tiles → IsFramedAs count number bytes tiles
 framed_as_read count number bytes tiles some each e = by_number count number bytes tiles (number == 1) some each refl e
 
--- nothing was framed where nothing is read
+-- bytes from which no tiles are read are framed from none
 pub none_framed : (count number : ℕ) (bytes : List ℕ) (tiles : List (List ℕ)) → group_tiles count number bytes ≡ None → ¬ IsFramedAs count number bytes tiles
 none_framed count number bytes tiles none framed =
     let read : group_tiles count number bytes ≡ Some tiles = (λ i. group_tiles count (sym framed.length i) (sym framed.group i)) ∙ reads_framed count tiles framed.framable in
     none-some tiles (sym none ∙ read)
 
--- two lists of one number that are framed as the same bytes are the same
+-- lists of equally many tiles that are framed as equal bytes are equal
 pub framed_once : (count : ℕ) (tiles others : List (List ℕ)) → CanFrame count tiles → CanFrame count others → length tiles ≡ length others → framed_with count tiles ≡ framed_with count others → tiles ≡ others
 framed_once count tiles others can also same equal =
     let first = reads_framed count tiles can in
@@ -441,13 +462,15 @@ framed_once count tiles others can also same equal =
     let both : Some tiles ≡ Some others = sym first ∙ second in
     cc
 
--- What a call answers, carried over to what follows from it.
+-- A call's answer, carried over to what follows from it.
 
+-- A property that another one implies carries over to the value in a result.
 pub some_read : {X E : Type 0} (r : Result (Option X) E) (P Q : X → Type 0) → ((x : X) → P x → Q x) → IfOk r (λ o. IfSome o P) → IfOk r (λ o. IfSome o Q)
 some_read (Err e) P Q f h = tt
 some_read (Ok None) P Q f h = tt
 some_read (Ok (Some x)) P Q f h = f x h
 
+-- A fact that another one implies carries over to a result without a value.
 pub none_read : {X E : Type 0} (r : Result (Option X) E) (P Q : Type 0) → (P → Q) → IfOk r (λ o. IfNone o P) → IfOk r (λ o. IfNone o Q)
 none_read (Err e) P Q f h = tt
 none_read (Ok None) P Q f h = f h

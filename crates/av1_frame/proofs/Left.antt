@@ -34,6 +34,7 @@ pub record IsLeft (j : Job) (s : State) : Type 0 where
     context_update_tile_id = context_tile_of j;
   }
 
+-- A state that holds what was made of a job, with the group's bytes and blocks, holds the job's outcome.
 pub left_of : (j : Job) (group : List ℕ) (s : State) (blocks : List Block) → All (ViewLies (job_tables j)) (tile_views j.results) → AreViewsApart (tile_views j.results)
     → group ≡ framed (tile_bytes j.results) → IsLeft j s → blocks ≡ (coded_of j).blocks.entries → Holds j (outcome j) group s blocks
 left_of j group s blocks lies apart bytes left put = record {

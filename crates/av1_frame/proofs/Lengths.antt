@@ -10,7 +10,7 @@ use Rattle.std.proofs.lemmas.Nat.{leading_top, pow-add}
 use Rattle.std.proofs.lemmas.List.Elements.{All-head, All-tail}
 use Rattle.av1_frame.specs.Framing.{greatest, longest, size_bytes, binary_digits, CanFrame}
 
--- one tile more
+-- one tile more makes the greatest length the greater of two
 greatest_push : (tiles : List (List ℕ)) (last : List ℕ) → greatest (tiles ++ last ∷ []) ≡ max (greatest tiles) (length last)
 unfolding greatest
 greatest_push [] last = omega arith
@@ -31,16 +31,19 @@ longest_push (tile ∷ next ∷ tiles) last =
     (λ i. if nat_lt (most i) (length tile) then 0 else rest i + 1)
     ∙ compared (length last) (length tile) (greatest (next ∷ tiles)) (longest (next ∷ tiles)) (length (next ∷ tiles)) (length (tile ∷ next ∷ tiles)) (omega arith)
 
--- the tiles so far and one more
+-- A list of tiles with one tile more at its end.
 module _ {B : Type 0} (items : B → List ℕ) (tiles : List B) (n : ℕ) (tile : B) (less : n < length tiles) (here : tile ≡ get_or tiles n tile) where
+  -- One tile more at the front of a list adds its bytes at the end.
   next : map items (take (n + 1) tiles) ≡ map items (take n tiles) ++ items tile ∷ []
   next =
       ap (map items) (take_more tiles n tile less ∙ ap (λ z. take n tiles ++ z ∷ []) (sym here))
       ∙ map-append items (take n tiles) (tile ∷ [])
 
+  -- One tile more raises the greatest length to its own, where its own is greater.
   pub greatest_more : greatest (map items (take (n + 1) tiles)) ≡ max (greatest (map items (take n tiles))) (length (items tile))
   greatest_more = ap greatest next ∙ greatest_push (map items (take n tiles)) (items tile)
 
+  -- One tile more is the last of the longest, unless an earlier one is longer.
   pub longest_more : longest (map items (take (n + 1) tiles)) ≡ (if nat_lt (length (items tile)) (greatest (map items (take n tiles))) then longest (map items (take n tiles)) else n)
   longest_more =
       let long : length (map items (take n tiles)) ≡ n = length-map (take n tiles) items ∙ (length-take n tiles ∙ omega arith) in
@@ -51,13 +54,13 @@ module _ {B : Type 0} (items : B → List ℕ) (tiles : List B) (n : ℕ) (tile 
 pub longest_here : (l g a n : ℕ) → g ≤ l → (if nat_lt l g then a else n) ≡ n
 longest_here l g a n h = grind (arith, nat_tests)
 
--- a shorter one isn't
+-- a tile that is shorter than the longest isn't the longest
 pub longest_before : (l g a n : ℕ) → l < g → (if nat_lt l g then a else n) ≡ a
 longest_before l g a n h = grind (arith, nat_tests)
 
 -- How many bytes the greatest length takes.
 
--- bytes of eight bits
+-- the numbers of `count` bytes are the numbers of 8 * count bits
 bits_of : (count : ℕ) → 2 ^ (8 * count) ≡ 256 ^ count
 bits_of zero = refl
 bits_of (suc count) =
@@ -90,7 +93,7 @@ longest_at [] k = omega arith
 longest_at (tile ∷ tiles) zero = omega arith
 longest_at (tile ∷ tiles) (suc k) = let rest = longest_at tiles k in omega arith
 
--- the greatest length is one of theirs
+-- the greatest length of tiles below a bound is below the bound
 greatest_below : (bound : ℕ) (tiles : List (List ℕ)) → 0 < bound → All (λ tile. length tile < bound) tiles → greatest tiles < bound
 unfolding greatest
 greatest_below bound [] some each = some
@@ -99,6 +102,7 @@ greatest_below bound (tile ∷ tiles) some each =
     let rest = greatest_below bound tiles some (All-tail (λ t. length t < bound) tile tiles each) in
     omega arith
 
+-- The greatest length of some tiles, none of them empty, is at least 1.
 greatest_some : (tiles : List (List ℕ)) → 1 ≤ length tiles → All (λ tile. 1 ≤ length tile) tiles → 1 ≤ greatest tiles
 unfolding greatest
 greatest_some [] some each = absurd (omega arith)

@@ -16,14 +16,17 @@ module _ {R : Type 0} (results : List R) where
     fits : (n : ℕ) → length results ≤ n → times n m.taken ≡ 0
     entries : (k : ℕ) (p : ℕ × R) → slice_get m.delivered k ≡ Some p → slice_get results p.0 ≡ Some p.1
 
+  -- Two tests that hold together hold each.
   tested : (a b : Bool) → (a && b) ≡ true → (a ≡ true) × (b ≡ true)
   tested true b e = (refl, e)
   tested false b e = absurd (let f : false ≡ true = e in cc)
 
+  -- A choice between two machines in order is in order.
   chosen : (b : Bool) (m m' : Machine R) → (b ≡ true → Kept m') → Kept m → Kept (if b then m' else m)
   chosen true m m' new old = new refl
   chosen false m m' new old = old
 
+  -- A claim keeps the machine in order.
   claims_kept : (o : Option (Option ℕ)) (w n : ℕ) (m : Machine R) → slice_get m.held w ≡ o → Kept m → Kept (after_claim results o (length results) w n m)
   claims_kept None w n m e k = k
   claims_kept (Some (Some h)) w n m e k = k
@@ -39,6 +42,7 @@ module _ {R : Type 0} (results : List R) where
         entries = k.entries;
       }) k
 
+  -- The delivery of a held number keeps the machine in order.
   delivers_kept : (o : Option R) (w n : ℕ) (m : Machine R) → slice_get m.held w ≡ Some (Some n) → slice_get results n ≡ o → Kept m → Kept (after_result results o w n m)
   delivers_kept None w n m e is k = k
   delivers_kept (Some r) w n m e is k = record {
@@ -49,19 +53,23 @@ module _ {R : Type 0} (results : List R) where
     entries = entry_snoc (λ p. slice_get results p.0 ≡ Some p.1) m.delivered (n, r) k.entries is;
   }
 
+  -- A delivery keeps the machine in order, whether or not a number is held.
   gives_kept : (o : Option (Option ℕ)) (w : ℕ) (m : Machine R) → slice_get m.held w ≡ o → Kept m → Kept (after_delivery results o w m)
   gives_kept None w m e k = k
   gives_kept (Some None) w m e k = k
   gives_kept (Some (Some n)) w m e k = delivers_kept (slice_get results n) w n m e refl k
 
+  -- One event keeps the machine in order.
   step_kept : (e : Event) (m : Machine R) → Kept m → Kept (step results (length results) e m)
   step_kept (claim w n) m k = claims_kept (slice_get m.held w) w n m refl k
   step_kept (deliver w) m k = gives_kept (slice_get m.held w) w m refl k
 
+  -- A list of events keeps the machine in order.
   after_kept : (es : List Event) (m : Machine R) → Kept m → Kept (after results (length results) es m)
   after_kept [] m k = k
   after_kept (e ∷ es) m k = after_kept es (step results (length results) e m) (step_kept e m k)
 
+  -- The machine is in order at the start.
   start_kept : (workers : ℕ) → Kept (start workers)
   start_kept workers = record {
     exact = λ n. omega (arith, none_held workers n);
@@ -70,6 +78,7 @@ module _ {R : Type 0} (results : List R) where
     entries = λ k p e. absurd (let f : None ≡ Some p = e in cc);
   }
 
+-- A number that wasn't delivered has no results.
 none_of : {R : Type 0} (n : ℕ) (ps : List (ℕ × R)) → times n (numbers ps) ≡ 0 → results_of n ps ≡ []
 none_of n [] h = refl
 none_of {R} n (p ∷ ps) h = dite (ℕ_discrete p.0 n)
@@ -87,17 +96,20 @@ one_of {R} results r n (p ∷ ps) at each h = dite (ℕ_discrete p.0 n)
     (λ ne. ap (λ (b : Bool). if b then p.1 ∷ results_of n ps else results_of n ps) (ne_eqb p.0 n ne)
     ∙ one_of results r n ps at (λ k q f. each (suc k) q f) (let t = times_other n p.0 ne in omega arith))
 
+-- One entry more at the front of a list is the front and this entry.
 take_next : {R : Type 0} (rs : List R) (n : ℕ) (r : R) → slice_get rs n ≡ Some r → take (suc n) rs ≡ take n rs ++ r ∷ []
 take_next [] n r e = absurd (let f : None ≡ Some r = e in cc)
 take_next (x ∷ rs) zero r e = let is : x ≡ r = (let f : Some x ≡ Some r = e in cc) in λ i. is i ∷ []
 take_next (x ∷ rs) (suc n) r e = ap (λ (l : List _). x ∷ l) (take_next rs n r e)
 
+-- A list has an entry at each index below its length.
 pub got : {R : Type 0} (rs : List R) (n : ℕ) → n < length rs → (r : R) × (slice_get rs n ≡ Some r)
 got [] n h = absurd (omega arith)
 got (x ∷ rs) zero h = (x, refl)
 got (x ∷ rs) (suc n) h = got rs n (omega arith)
 
 module _ {R : Type 0} (results : List R) (ps : List (ℕ × R)) (each : (k : ℕ) (p : ℕ × R) → slice_get ps k ≡ Some p → slice_get results p.0 ≡ Some p.1) (once : (n : ℕ) → n < length results → times n (numbers ps) ≡ 1) where
+  -- The results below n, sorted by number, are the first n results.
   sorts : (n : ℕ) → n ≤ length results → by_number n ps ≡ take n results
   sorts zero h = refl
   sorts (suc n) h =
@@ -106,6 +118,7 @@ module _ {R : Type 0} (results : List R) (ps : List (ℕ × R)) (each : (k : ℕ
       let b = one_of results r.0 n ps r.1 each (once n (omega arith)) in
       (λ i. a i ++ b i) ∙ sym (take_next results n r.0 r.1)
 
+-- The machine is in order after any list of events, by any number of workers.
 pub core_law : (R : Type 0) → CoreAnyOrder R
 core_law R workers results events =
     let m = after results (length results) events (start workers) in
@@ -119,6 +132,7 @@ core_law R workers results events =
           (full (length results) (numbers m.delivered) diff (λ n h. let a = k.exact n in let b = k.fits n h in omega arith) (length-numbers m.delivered ∙ long)) (length results) (omega arith) ∙ take-length results;
     }
 
+-- No number past the tiles is ever delivered.
 pub delivered_small : {R : Type 0} (results : List R) (events : List Event) (workers : ℕ) (n : ℕ) → length results ≤ n → times n (numbers (after results (length results) events (start workers)).delivered) ≡ 0
 delivered_small results events workers n h =
     let k = after_kept results events (start workers) (start_kept results workers) in

@@ -20,7 +20,7 @@ use Rattle.av1_frame.proofs.Counting.{times_one, times_other}
 use Rattle.av1_frame.proofs.OrderCounts.{length-numbers, full}
 use Rattle.av1_frame.proofs.OrderRuns.{core_law, delivered_small}
 
--- the results of numbered ones
+-- the results of numbered results, without their numbers
 abbrev seconds : {R : Type 0} → List (ℕ × R) → List R
 seconds ps = map (λ p. p.1) ps
 
@@ -30,11 +30,12 @@ module _ {X Y : Type 0} (f : X → Y) where
   under P [] h = All-nil (λ x. P (f x))
   under P (x ∷ xs) h = All-cons (λ x. P (f x)) x xs (All-head P (f x) (map f xs) h) (under P xs (All-tail P (f x) (map f xs) h))
 
+  -- What holds of the image of each element holds of all elements of the mapped list.
   over : (P : Y → Type 0) (xs : List X) → All (λ x. P (f x)) xs → All P (map f xs)
   over P [] h = All-nil P
   over P (x ∷ xs) h = All-cons P (f x) (map f xs) (All-head (λ x. P (f x)) x xs h) (over P xs (All-tail (λ x. P (f x)) x xs h))
 
-  -- the image at a place
+  -- an element of a mapped list is the image of the element at its place
   image_at : (xs : List X) (n : ℕ) (x : X) (d : Y) → slice_get xs n ≡ Some x → get_or (map f xs) n d ≡ f x
   image_at [] n x d e = absurd (let g : None ≡ Some x = e in cc)
   image_at (y ∷ xs) zero x d e = ap f (let g : Some y ≡ Some x = e in let is : y ≡ x = cc in is)
@@ -52,7 +53,7 @@ all_at P [] n r h e = absurd (let g : None ≡ Some r = e in cc)
 all_at P (x ∷ xs) zero r h e = subst P (let g : Some x ≡ Some r = e in let is : x ≡ r = cc in is) (All-head P x xs h)
 all_at P (x ∷ xs) (suc n) r h e = all_at P xs n r (All-tail P x xs h) e
 
--- a numbered one is counted
+-- a numbered result is counted at its number
 counted : {R : Type 0} (ps : List (ℕ × R)) (k : ℕ) (p : ℕ × R) → slice_get ps k ≡ Some p → 1 ≤ times p.0 (numbers ps)
 counted [] k p e = absurd (let g : None ≡ Some p = e in cc)
 counted (q ∷ ps) zero p e =
@@ -60,7 +61,7 @@ counted (q ∷ ps) zero p e =
     let one : times p.0 (q.0 ∷ []) ≡ 1 = subst (λ n. times p.0 (n ∷ []) ≡ 1) (sym is) (times_one p.0) in omega arith
 counted (q ∷ ps) (suc k) p e = let r = counted ps k p e in omega arith
 
--- two places with one number
+-- a number that stands at two places stands at least twice
 twice : {R : Type 0} (ps : List (ℕ × R)) (i j : ℕ) (p q : ℕ × R) → i < j → slice_get ps i ≡ Some p → slice_get ps j ≡ Some q → p.0 ≡ q.0 → 2 ≤ times q.0 (numbers ps)
 twice [] i j p q before a b same = absurd (let g : None ≡ Some p = a in cc)
 twice (x ∷ ps) i zero p q before a b same = absurd (omega arith)
@@ -76,7 +77,7 @@ numbered_at f [] k d l = absurd (omega arith)
 numbered_at f (p ∷ ps) zero d l = (p, (refl, refl))
 numbered_at f (p ∷ ps) (suc k) d l = numbered_at f ps k d (omega arith)
 
--- two elements of different numbers
+-- what holds of all pairs of elements holds of two elements at different places
 pair_at : {X Y : Type 0} (f : X → Y) (R : Y → Y → Type 0) (xs : List X) (m n : ℕ) (x y : X) → AllPairs R (map f xs) → m < n → slice_get xs m ≡ Some x → slice_get xs n ≡ Some y → R (f x) (f y)
 pair_at f R xs m n x y pairs before a b =
     subst (R (f x)) (image_at f xs n y (f x) b) (subst (λ z. R z (get_or (map f xs) n (f x))) (image_at f xs m x (f x) a) (pairs m n (f x) before (within f xs n y b)))
@@ -87,10 +88,11 @@ module _ {R : Type 0} (xs : List R) (ps : List (ℕ × R)) (each : (k : ℕ) (p 
   forth_from P [] at h = All-nil P
   forth_from P (q ∷ qs) at h = All-cons P q.1 (seconds qs) (all_at P xs q.0 q.1 h (at zero q refl)) (forth_from P qs (λ k p e. at (suc k) p e) h)
 
+  -- What holds of all results holds of all delivered ones.
   forth : (P : R → Type 0) → All P xs → All P (seconds ps)
   forth P h = forth_from P ps each h
 
-  -- one that is delivered
+  -- what holds of all delivered results holds of one that is delivered
   found : (P : R → Type 0) (qs : List (ℕ × R)) (n : ℕ) (r : R) → ((k : ℕ) (p : ℕ × R) → slice_get qs k ≡ Some p → slice_get xs p.0 ≡ Some p.1) → All P (seconds qs) → slice_get xs n ≡ Some r → times n (numbers qs) ≡ 1 → P r
   found P [] n r at h e one = absurd (omega arith)
   found P (q ∷ qs) n r at h e one = dite (ℕ_discrete q.0 n)
@@ -120,7 +122,7 @@ module _ (views : List View) (ps : List (ℕ × View)) (each : (k : ℕ) (p : �
   parts_apart : {E : Type 0} (part : View → Part E) → ArePartsApart (map part views) → ArePartsApart (map part (seconds ps))
   parts_apart part apart = pairs_forth views ps each part (λ one other. AreApart one.rect other.rect) (λ a b h u v p q. h u v q p) different apart
 
-  -- the delivered views are apart
+  -- delivered views have no place in common where all views have none
   views_apart : AreViewsApart views → AreViewsApart (seconds ps)
   views_apart a = record {
     y = parts_apart (λ v. v.ts.rec.y) a.y;
@@ -143,13 +145,15 @@ module _ (views : List View) (ps : List (ℕ × View)) (each : (k : ℕ) (p : �
         has.elsewhere k (over part P (seconds ps) (forth views ps each (λ v. P (part v)) (under part P views out)));
   }
 
-  -- so has a plane, a table of entries, a table of units
+  -- a plane that has the delivered parts has the parts of all views
   plane_all : (part : View → Part ℤ) (old new : PlaneView) → IsCodedPlane (map part (seconds ps)) old new → IsCodedPlane (map part views) old new
   plane_all part old new c = record { cfg = c.cfg; samples = has_all part old.cfg.stride old.samples new.samples c.samples }
 
+  -- A table that has the delivered parts has the parts of all views.
   table_all : {E : Type 0} (part : View → Part E) (old new : Rows E) → IsCodedTable (map part (seconds ps)) old new → IsCodedTable (map part views) old new
   table_all part old new c = record { cols = c.cols; rows = c.rows; entries = has_all part old.cols old.entries new.entries c.entries }
 
+  -- A table of units that has the delivered parts has the parts of all views.
   units_all : (part : View → Part RestorationUnit) (old new : Units) → IsCodedUnitTable (map part (seconds ps)) old new → IsCodedUnitTable (map part views) old new
   units_all part old new c = record { cfg = c.cfg; cols = c.cols; rows = c.rows; entries = has_all part old.cols old.entries new.entries c.entries }
 
@@ -173,7 +177,7 @@ module _ (views : List View) (ps : List (ℕ × View)) (each : (k : ℕ) (p : �
     blocks = table_all (λ v. v.blocks) old.blocks new.blocks c.blocks;
   }
 
--- views in any order of delivery
+-- the delivered views may be put in in any order of delivery
 pub coded_law : CodedAnyOrder
 coded_law tables views lies apart workers events all =
     let m = after views (length views) events (start workers) in

@@ -32,7 +32,7 @@ coded_input p s blocks views state valid = record {
 pub all_predicted : (xdec ydec : ℕ) (blocks : List Block) → All (IsBlock xdec ydec) blocks → All (λ b. ref_number (first_ref b) < 8) blocks
 all_predicted xdec ydec blocks h k d l = let block = h k d l in ref_number_below (first_ref (get_or blocks k d)) block.reference
 
--- a plane after restoration
+-- a plane after restoration keeps its layout
 restored_cfg : (p : Parameters) (u : Units) (d e : PlaneView) → (restored_plane p u d e).cfg ≡ e.cfg
 unfolding with_restored_picture
 restored_cfg p u d e = refl
@@ -46,7 +46,7 @@ module _ (p : Parameters) (u : Three Units) (blocks : List Block) (f : Three Pla
       by true = λ i. record { y = cdef_cfg (whole_frame p blocks (view_picture f.y)) 0 f.y i; u = cdef_cfg (whole_frame p blocks (view_picture f.y)) 1 f.u i; v = cdef_cfg (whole_frame p blocks (view_picture f.y)) 2 f.v i }
       by false = refl
 
-  -- and so do the restored ones
+  -- restored planes have the layouts of the enhanced ones
   restored_layout : (e : Three PlaneView) → layouts (restored_where_on p u f e) ≡ layouts e
   restored_layout e = by p.sequence.enable_restoration
     where
@@ -54,6 +54,6 @@ module _ (p : Parameters) (u : Three Units) (blocks : List Block) (f : Three Pla
       by true = λ i. record { y = restored_cfg p u.y f.y e.y i; u = restored_cfg p u.u f.u e.u i; v = restored_cfg p u.v f.v e.v i }
       by false = refl
 
-  -- all stages keep it
+  -- all stages after deblocking keep the layouts of the planes
   pub finished_layout : layouts (finished p u blocks f) ≡ layouts f
   finished_layout = restored_layout (enhanced p blocks f) ∙ enhanced_layout

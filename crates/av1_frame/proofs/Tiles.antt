@@ -1,4 +1,4 @@
--- What the tiles of a frame were coded into: it lies where the tiles do, and has the whole block table.
+-- The tables that the tiles of a frame were coded into: their parts lie where the tiles do.
 use Rattle.std.proofs.Common.{◌≡◌, ℕ, ◌+◌, ◌-◌, ◌*◌, ◌/◌, ◌%◌, ◌^◌, ◌<◌, ◌≤◌, inl, inr, List, [], ◌∷◌, length, map, All, get_or, Option, Some, None, refl, sym, ap, ◌∙◌, subst, arith}
 use Rattle.std.specs.Prelude.{slice_get}
 use Rattle.std.specs.List.{AllZip}
@@ -31,7 +31,7 @@ use Rattle.av1_tiling.proofs.LawProofs.{cuts_blocks}
 use Rattle.av1_tiling.proofs.Placed.{coded_have}
 use Rattle.av1_tiling.proofs.ViewPlaces.{views_apart, views_lie, coded_lie, coded_apart, length-views, get_or-views_below}
 
--- the entry of a part that a place of a table has
+-- what holds of all entries of a part holds of the table's entry that the part has
 pub from_part : {E : Type 0} (P : E → Type 0) (xs ys : List E) (k j : ℕ) (d : E) → k < length xs → slice_get xs k ≡ slice_get ys j → All P ys → P (get_or xs k d)
 from_part P xs ys k j d l same each = elim (cases_lt j (length ys)) [
   | inl below ↦
@@ -46,7 +46,7 @@ module _ (t : TilingInfo) (s : State) (blocks : List Block) (cols rows : ℕ) (m
   pub tiles_lie : All (ViewLies (state_tables s (record { cols = cols; rows = rows; entries = blocks }))) after
   tiles_lie = coded_lie (views t s blocks) after shapes (state_tables s (record { cols = cols; rows = rows; entries = blocks })) (views_lie t s blocks cols rows made full whole)
 
-  -- no two have a place in common
+  -- the coded views have no place in common
   pub tiles_apart : AreViewsApart after
   tiles_apart = coded_apart (views t s blocks) after shapes (views_apart t s blocks cols rows made)
 
@@ -125,6 +125,6 @@ kept_state p s after state input rec units motion shift = record {
   shift = subst (λ n. n ≤ 3) (sym shift) state.shift;
 }
 
--- a list of one
+-- what holds of one element holds of all elements of the list of it
 pub only : {A : Type 0} (P : A → Type 0) (xs : List A) (x : A) → xs ≡ x ∷ [] → P x → All P xs
 only P xs x e p = subst (All P) (sym e) (All-cons P x [] p (All-nil P))

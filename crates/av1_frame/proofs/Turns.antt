@@ -5,11 +5,11 @@ use native.Mathlib.Decide.{ℕ_discrete}
 use Rattle.av1_frame.specs.Claims.{times, Has, with_tile}
 use Rattle.av1_frame.proofs.Counting.{times-append, times_one}
 
--- what stands in a list stands in a longer one
+-- a number of a list stands in every longer list that begins with it
 pub has_more : (xs ys : List ℕ) (n : ℕ) → Has xs n → Has (xs ++ ys) n
 has_more xs ys n h = omega (arith, times-append n xs ys)
 
--- and so does its last number
+-- the last number of a list stands in the list
 has_last : (xs : List ℕ) (t n : ℕ) → n ≡ t → Has (xs ++ t ∷ []) n
 has_last xs t n e = subst (λ (m : ℕ). Has (xs ++ t ∷ []) m) (sym e) (omega (arith, times-append t xs (t ∷ []), times_one t))
 

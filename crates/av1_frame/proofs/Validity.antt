@@ -20,7 +20,7 @@ use Rattle.av1_frame.specs.Valid.{IsValid, IsValidTile}
 use Rattle.av1_frame.proofs.Depths.{parts_of, of_parts}
 use Rattle.av1_frame.proofs.UnitRule.{units_true, units_of}
 
--- one element more
+-- a test without a position fails on the first element and on all others
 one_more : {A : Type 0} (test : A → Bool) (n : ℕ) (x : A) (xs : List A) (rest : Option ℕ) (b : Bool) → test x ≡ b → cond b (Some n) rest ≡ None
     → (rest ≡ None → All (λ y. test y ≡ false) xs) → All (λ y. test y ≡ false) (x ∷ xs)
 one_more test n x xs rest true t f each = absurd (none-some n (sym f))
@@ -31,36 +31,42 @@ from_none : {A : Type 0} (test : A → Bool) (n : ℕ) (xs : List A) → positio
 from_none test n [] e = All-nil (λ x. test x ≡ false)
 from_none test n (x ∷ xs) e = one_more test n x xs (position_from test (n + 1) xs) (test x) refl e (λ f. from_none test (n + 1) xs f)
 
+-- A test that no element passes has no position, wherever counting starts.
 none_from : {A : Type 0} (test : A → Bool) (n : ℕ) (xs : List A) → All (λ x. test x ≡ false) xs → position_from test n xs ≡ None
 none_from test n [] each = refl
 none_from test n (x ∷ xs) each =
     ap (λ (b : Bool). cond b (Some n) (position_from test (n + 1) xs)) (All-head (λ y. test y ≡ false) x xs each)
     ∙ none_from test (n + 1) xs (All-tail (λ y. test y ≡ false) x xs each)
 
+-- No element passes a test that has no position.
 position-none : {A : Type 0} (test : A → Bool) (xs : List A) → position test xs ≡ None → All (λ x. test x ≡ false) xs
 position-none test xs e = from_none test 0 xs (sym (position_from-zero test xs) ∙ e)
 
+-- A test that no element passes has no position.
 none-position : {A : Type 0} (test : A → Bool) (xs : List A) → All (λ x. test x ≡ false) xs → position test xs ≡ None
 none-position test xs each = position_from-zero test xs ∙ none_from test 0 xs each
 
--- neither a first cause nor a later one
+-- where there is no cause, neither the first cause nor a later one is met
 first_none : (o : Option ℕ) (cause : ℕ → GroupError) (others : Option GroupError) → first_of o cause others ≡ None → (o ≡ None) × (others ≡ None)
 first_none None cause others e = (refl, e)
 first_none (Some tile) cause others e = absurd (none-some (cause tile) (sym e))
 
+-- There is no cause where neither the first cause nor a later one is met.
 none_first : (o : Option ℕ) (cause : ℕ → GroupError) (others : Option GroupError) → o ≡ None → others ≡ None → first_of o cause others ≡ None
 none_first None cause others e f = f
 none_first (Some tile) cause others e f = absurd (none-some tile (sym e))
 
+-- A boolean whose negation is false is true.
 turned : (b : Bool) → not b ≡ false → b ≡ true
 turned true e = refl
 turned false e = absurd (true≢false e)
 
+-- The negation of a true boolean is false.
 unturned : (b : Bool) → b ≡ true → not b ≡ false
 unturned true e = refl
 unturned false e = absurd (true≢false (sym e))
 
--- the tests of one result
+-- a result that meets no cause of refusal is valid
 valid_of : (p : Parameters) (m : Meaning) → is_none m ≡ false → has_no_bytes m ≡ false → has_too_many_bytes m ≡ false → has_bad_sample p m ≡ false → has_bad_block p m ≡ false → has_bad_unit m ≡ false → IsValid p m
 valid_of p None a b c d e f = absurd (true≢false a)
 valid_of p (Some (bytes, v)) a b c d e f =
@@ -80,6 +86,7 @@ valid_of p (Some (bytes, v)) a b c d e f =
     few_of : (n : ℕ) → nat_le (2 ^ 32) n ≡ false → n < 2 ^ 32
     few_of n e = grind (arith, nat_tests)
 
+-- A valid result meets none of the causes of refusal.
 tests_of : (p : Parameters) (m : Meaning) → IsValid p m → (is_none m ≡ false) × ((has_no_bytes m ≡ false) × ((has_too_many_bytes m ≡ false) × ((has_bad_sample p m ≡ false) × ((has_bad_block p m ≡ false) × (has_bad_unit m ≡ false)))))
 tests_of p None valid = absurd valid
 tests_of p (Some (bytes, v)) valid =
@@ -98,6 +105,7 @@ tests_of p (Some (bytes, v)) valid =
     many_of : (n : ℕ) → n < 2 ^ 32 → nat_le (2 ^ 32) n ≡ false
     many_of n l = grind (arith, nat_tests)
 
+-- A group isn't refused exactly where all its results are valid.
 pub accepts_valid : (p : Parameters) (ms : List Meaning) → (refusal p ms ≡ None) ↔ All (IsValid p) ms
 accepts_valid p ms = (to, from)
   where

@@ -27,7 +27,7 @@ use Rattle.av1_frame.specs.Results.{result_of}
 use Rattle.av1_frame.specs.Worked.{IsCodedFrom, IsTileResult, SaysResult}
 use Rattle.av1_frame.proofs.Gathers.{at_slice}
 
--- a view's result is that of a tile
+-- the result of a view is the result of its tile
 pub tile_said : {X : Type 0} (meaning : View → Meaning) (all : List View) (n : ℕ) (v : View) (done : Delivered X) (tile : Option (CodedTile X)) → get_elem? all n ≡ some v
     → IsResult (meaning v) v done → SaysResult done tile → IsTileResult meaning all n tile
 tile_said meaning all n v done tile at is says =
@@ -39,26 +39,26 @@ at_index [] n a h e = absurd (omega arith)
 at_index (x ∷ xs) zero a h e = ap (λ (y : _). some y) (sym e)
 at_index (x ∷ xs) (suc n) a h e = at_index xs n a (omega arith) e
 
--- what follows from an answer
+-- what follows from the value of an answer follows from the answer
 pub ok_also : {A E : Type 0} (P Q : A → Type 0) (r : Result A E) → ((a : A) → P a → Q a) → IfOk r P → IfOk r Q
 ok_also P Q (Ok a) f h = f a h
 ok_also P Q (Err e) f h = tt
 
--- the item after those that came
+-- the item behind a front is the entry at the front's length
 item_here : {A : Type 0} (xs : List A) (x : A) (rest : List A) → slice_get (xs ++ (x ∷ rest)) (length xs) ≡ Some x
 item_here [] x rest = refl
 item_here (y ∷ ys) x rest = item_here ys x rest
 
--- the same, where they are all
+-- the next item of a list stands behind the items that came
 pub item_next : {A : Type 0} (xs : List A) (x : A) (rest all : List A) (n : ℕ) → n ≡ length xs → xs ++ (x ∷ rest) ≡ all → slice_get all n ≡ Some x
 item_next {A} xs x rest all n is e = subst (λ (p : List A × ℕ). slice_get p.0 p.1 ≡ Some x) (λ i. (e i, sym is i)) (item_here xs x rest)
 
--- what is known of each entry that is there, of one entry
+-- what is known of each value that an option may have is known of the option
 if_some : {A : Type 0} (o : Option A) (P : A → Type 0) → ((d : A) → o ≡ Some d → P d) → IfSome o P
 if_some None P h = tt
 if_some (Some d) P h = h d refl
 
--- what is known of the next entry
+-- the next entry is a result of its view
 pub entry_next : {X C : Type 0} (meaning : C → View → Meaning) (about : About X C) (all xs : List (Option (Delivered X))) (o : Option (Delivered X)) (rest : List (Option (Delivered X))) (n : ℕ) → GivesResults meaning about all
     → n ≡ length xs → xs ++ (o ∷ rest) ≡ all → IfSome o (IsResultOf meaning about n)
 entry_next meaning about all xs o rest n gives is e =
@@ -76,7 +76,7 @@ taken_here (x ∷ xs) zero v e = let is : x ≡ v = some-injective x v e in λ i
 taken_here (x ∷ xs) (suc n) v e = ap (λ (l : List _). x ∷ l) (taken_here xs n v e)
 
 module _ {X : Type 0} (meaning : View → Meaning) where
-  -- one more tile
+  -- one tile more is coded from its view
   pub tiles_more : (all : List View) (n : ℕ) (tile : Option (CodedTile X)) (made more : List (Option (CodedTile X))) → AllZip (IsCodedFrom meaning) (take n all) made
       → IsTileResult meaning all n tile → more ≡ made ++ tile ∷ [] → AllZip (IsCodedFrom meaning) (take (n + 1) all) more
   tiles_more all n tile made more old is pushed =
@@ -92,7 +92,7 @@ module _ {X : Type 0} (meaning : View → Meaning) where
   tiles_mean (v ∷ vs) [] h = absurd h
   tiles_mean (v ∷ vs) (t ∷ ts) h = λ i. h.0.0 i ∷ tiles_mean vs ts h.1 i
 
-  -- and have the shapes of the views
+  -- the results of all tiles keep the shapes of their views
   pub tiles_keep : (all : List View) (made : List (Option (CodedTile X))) → AllZip (IsCodedFrom meaning) all made → AllZip KeepsShape all (map result_of made)
   tiles_keep [] [] h = tt
   tiles_keep [] (t ∷ ts) h = absurd h
@@ -104,7 +104,7 @@ pub few_views : (t : TilingInfo) (s : State) (blocks : List Block) (cols rows : 
 few_views t s blocks cols rows made =
     let few = tile_count-le t (tiling_facts t s cols rows made) in let long = length-views t s blocks in omega arith
 
--- and at least one
+-- a frame has at least one view
 pub some_views : (t : TilingInfo) (s : State) (blocks : List Block) (cols rows : ℕ) → IsTilingOf t s cols rows → 0 < length (views t s blocks)
 some_views t s blocks cols rows made =
     let facts = tiling_facts t s cols rows made in

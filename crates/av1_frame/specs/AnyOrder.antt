@@ -1,4 +1,5 @@
--- Claims and deliveries of tiles as events, in any order: what each leaves, and what is so after any list of them.
+-- Claims and deliveries of tiles as events, in any order: what each event leaves, and what holds after
+-- any list of events.
 use Rattle.std.specs.Prelude.{◌≡◌, ℕ, zero, suc, ◌+◌, ◌<◌, ◌==◌, ◌&&◌, List, [], ◌∷◌, ◌++◌, length, map, All, nat_lt, replicate, Option, Some, None, slice_get, slice_set, if◌then◌else◌}
 use Rattle.av1_tiling.specs.Views.{View}
 use Rattle.av1_tiling.specs.Puts.{Tables, coded_tables}
@@ -23,7 +24,7 @@ held_numbers (None ∷ hs) = held_numbers hs
 held_numbers (Some n ∷ hs) = n ∷ held_numbers hs
 
 module _ {R : Type 0} where
-  -- the delivered numbers
+  -- the numbers of the delivered results
   abbrev pub numbers : List (ℕ × R) → List ℕ
   numbers [] = []
   numbers (p ∷ ps) = p.0 ∷ numbers ps
@@ -33,17 +34,17 @@ module _ {R : Type 0} where
   results_of n [] = []
   results_of n (p ∷ ps) = if p.0 == n then p.1 ∷ results_of n ps else results_of n ps
 
-  -- the results of all numbers below n, sorted by number
+  -- the results of all numbers below n, in the order of their numbers
   abbrev pub by_number : ℕ → List (ℕ × R) → List R
   by_number zero ps = []
   by_number (suc n) ps = by_number n ps ++ results_of n ps
 
-  -- nothing is taken, held or delivered
+  -- the machine at the start: nothing is taken, held or delivered
   abbrev pub start : ℕ → Machine R
   start workers = record { taken = []; held = replicate workers None; delivered = [] }
 
   module _ (results : List R) where
-    -- a worker that holds nothing claims a number below the number of tiles that isn't taken; nothing else changes
+    -- a worker that holds nothing claims a tile's number that isn't taken, and nothing else changes
     abbrev pub after_claim : Option (Option ℕ) → ℕ → ℕ → ℕ → Machine R → Machine R
     after_claim (Some None) tiles w n m =
         if nat_lt n tiles && (times n m.taken == 0)
@@ -62,12 +63,12 @@ module _ {R : Type 0} where
     after_delivery (Some (Some n)) w m = after_result (slice_get results n) w n m
     after_delivery _ w m = m
 
-    -- one event
+    -- the machine after one event
     abbrev pub step : ℕ → Event → Machine R → Machine R
     step tiles (claim w n) m = after_claim (slice_get m.held w) tiles w n m
     step tiles (deliver w) m = after_delivery (slice_get m.held w) w m
 
-    -- the machine after the events, the first of which comes first
+    -- the machine after a list of events
     abbrev pub after : ℕ → List Event → Machine R → Machine R
     after tiles [] m = m
     after tiles (e ∷ es) m = after tiles es (step tiles e m)
@@ -81,7 +82,7 @@ pub record InOrder {R : Type 0} (results : List R) (m : Machine R) : Type 0 wher
   pub entries : (k : ℕ) (p : ℕ × R) → slice_get m.delivered k ≡ Some p → slice_get results p.0 ≡ Some p.1
   pub sorted : length m.delivered ≡ length results → by_number (length results) m.delivered ≡ results
 
--- so it is after any list of events, by any number of workers
+-- any list of events, by any number of workers, leaves a machine that is in order
 abbrev pub CoreAnyOrder : Type 0 → Type 0
 CoreAnyOrder R =
     (workers : ℕ) (results : List R) (events : List Event)
@@ -91,8 +92,8 @@ CoreAnyOrder R =
 abbrev pub delivered_results : {R : Type 0} → Machine R → List R
 delivered_results m = map (λ p. p.1) m.delivered
 
--- tables into which delivered views were put are those into which the views were put by number, and have each view's
--- content in its rectangles
+-- tables with views put in as they were delivered are those with the views put in by number,
+-- and have each view's content in its rectangles
 pub record AreCodedByNumber (tables : Tables) (views delivered : List View) : Type 0 where
   pub order : coded_tables tables delivered ≡ coded_tables tables views
   pub coded : AreCoded views tables (coded_tables tables delivered)

@@ -12,7 +12,7 @@ use Rattle.av1_frame.specs.declared.delivered.Place.{Place}
 use Rattle.av1_frame.specs.declared.delivered.Place.TheVariants.{Start, Done}
 
 module _ {T : Type 0} where
-  -- a result of the view v, whose meaning is m: the coder's want of memory, or what m says
+  -- a result of the view v, whose meaning is m: the coder's want of memory, or what m is
   abbrev pub IsResult : Meaning → View → Delivered T → Type 0
   IsResult m v d =
       MatchResult d.coded (λ bytes. (m ≡ Some (bytes.items, d.view)) × SameShape v d.view)
@@ -34,7 +34,7 @@ module _ {T : Type 0} where
       pub start : word ≡ 0 → (v : View) × (value ≡ Start v) × (get_elem? about.starts n ≡ some v)
       pub done : word ≡ 3 → (d : Delivered T) × (value ≡ Done d) × IsResultOf about n d
 
-  -- the entries of these tiles are there
+  -- each claimed tile has a result among the entries
   abbrev pub GivesClaimed : List ℕ → List (Option (Delivered T)) → Type 0
   GivesClaimed claimed entries =
       (n : ℕ) → Has claimed n → (d : Delivered T) × (slice_get entries n ≡ Some (Some d))
@@ -44,7 +44,7 @@ module _ {T : Type 0} where
   delivered_of word (Done d) = if word == 3 then Some d else None
   delivered_of word _ = None
 
-  -- what was gathered out of the words and the slots
+  -- the entries gathered from the words and the slots are what a closed table gives for each slot
   abbrev pub Gathered : List ℕ → List (Place T) → List (Option (Delivered T)) → Type 0
   Gathered words slots items =
       (n : ℕ) (o : Option (Delivered T)) → get_elem? items n ≡ some o

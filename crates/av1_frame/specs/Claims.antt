@@ -1,4 +1,4 @@
--- Tiles that seats claim of a table: what holds between any two steps, and what each step tells.
+-- Tiles that seats claim of a table: what holds between any two steps, and what each step tells a seat.
 -- The word of a tile is 0 while it is free, 1 while its claimer codes it, and 3 once its result lies in its slot.
 -- What a slot has at home is only named here, as `At about n word value`.
 use Rattle.std.specs.Prelude.{◌≡◌, ◌≢◌, ◌⊎◌, ℕ, zero, suc, ◌+◌, ◌<◌, ◌==◌, List, [], ◌∷◌, ◌++◌, length, slice_index, Bool, false, Some, None, is_none, if◌then◌else◌}
@@ -18,25 +18,26 @@ times n (x ∷ xs) = (if x == n then 1 else 0) + times n xs
 abbrev pub Has : List ℕ → ℕ → Type 0
 Has xs n = 0 < times n xs
 
--- no number stands in both lists, nor twice in one
+-- no number stands in both lists, and none stands twice in one
 abbrev pub HaveNoneInCommon : List ℕ → List ℕ → Type 0
 HaveNoneInCommon xs ys = (n : ℕ) → times n xs + times n ys < 2
 
--- a list of tiles, with one more where that is so
+-- a list of tiles, with tile n at its end if `more`
 abbrev pub with_tile : Bool → ℕ → List ℕ → List ℕ
 with_tile more n xs = if more then xs ++ n ∷ [] else xs
 
--- 0 at 0, and else 1
+-- 0 for 0, and 1 for every other number
 abbrev pub sign : ℕ → ℕ
 sign zero = 0
 sign (suc n) = 1
 
 module _ {X : Type 0} where
-  -- the numbers that a seat claimed, and those that it found taken
+  -- the numbers that a seat claimed
   abbrev pub claims : Doing X → List ℕ
   claims Spent = []
   claims (Live k) = k.claimed
 
+  -- the numbers that a seat found taken
   abbrev pub misses : Doing X → List ℕ
   misses Spent = []
   misses (Live k) = k.missed
@@ -46,13 +47,13 @@ module _ {X : Type 0} where
   claims_of n [] = 0
   claims_of n (d ∷ ds) = times n (claims d) + claims_of n ds
 
-  -- what one seat knows is true
+  -- what one seat knows of the words is true
   pub record Sits (words : List ℕ) (about : X) (k : Knows X) : Type 0 where
     pub same : k.about ≡ about
     pub opened : (n : ℕ) → k.held ≡ Some n → Has k.claimed n × (slice_index words n ≡ 1)
     pub taken : (n : ℕ) → Has k.missed n → slice_index words n ≢ 0
 
-  -- what a seat that isn't spent knows is true
+  -- what a seat knows of the words is true, unless the seat is spent
   abbrev pub SitsIf : List ℕ → X → Doing X → Type 0
   SitsIf words about Spent = Unit {0}
   SitsIf words about (Live k) = Sits words about k
@@ -75,39 +76,42 @@ module _ {X : Type 0} where
   abbrev pub fresh : X → Doing X
   fresh about = Live (record { claimed = []; missed = []; held = None; about = about })
 
-  -- a seat that holds one more number, one that found a number taken, and one that holds none
+  -- a seat with one more number, which it claimed and holds
   abbrev pub with_claimed : Knows X → ℕ → Doing X
   with_claimed k n = Live (record { claimed = k.claimed ++ n ∷ []; missed = k.missed; held = Some n; about = k.about })
 
+  -- a seat with one more number, which it found taken
   abbrev pub with_missed : Knows X → ℕ → Doing X
   with_missed k n = Live (record { claimed = k.claimed; missed = k.missed ++ n ∷ []; held = k.held; about = k.about })
 
+  -- a seat that holds no number
   abbrev pub with_closed : Knows X → Doing X
   with_closed k = Live (record { claimed = k.claimed; missed = k.missed; held = None; about = k.about })
 
-  -- the seat after a claim that found the tile free, and after one that found it taken
+  -- a seat after a claim that found the tile free
   abbrev pub taking : Doing X → ℕ → Doing X
   taking Spent n = Spent
   taking (Live k) n = with_claimed k n
 
+  -- a seat after a claim that found the tile taken
   abbrev pub missing : Doing X → ℕ → Doing X
   missing Spent n = Spent
   missing (Live k) n = with_missed k n
 
   module _ {S : Type 0} (At : X → ℕ → ℕ → S → Type 0) where
-    -- what is at home, by the copy that the seat has
+    -- what is at home in a slot, by the copy that the seat has
     abbrev pub AtBy : Doing X → ℕ → ℕ → S → Type 0
     AtBy Spent n word y = Unit {0}
     AtBy (Live k) n word y = At k.about n word y
 
-    -- a claim: at 0 the tile was free, and the seat has its slot with what was at home at 0
+    -- a claim: at 0 the tile was free, and the seat has its slot, with what was at home
     abbrev pub Claimed : Step S → Me S (Doing X) → ℕ → Me S (Doing X) → Type 0
     Claimed st m found m' =
         (found ≡ 0 → (times st.word (claims m.0) ≡ 0)
         × ((y : S) × AtBy m.0 st.word 0 y × (m' ≡ (taking m.0 st.word, (st.word, y) ∷ m.1))))
         × (found ≢ 0 → m' ≡ (missing m.0 st.word, m.1))
 
-  -- nothing is held any more, and the slot is at home
+  -- a seat that holds nothing any more, its slot being at home
   abbrev pub closed : Doing X → Doing X
   closed Spent = Spent
   closed (Live k) = with_closed k
@@ -120,7 +124,7 @@ module _ {X : Type 0} where
   abbrev pub Looked : {S : Type 0} → Step S → Me S (Doing X) → ℕ → Me S (Doing X) → Type 0
   Looked st m found m' = (m' ≡ m) × ((n : ℕ) → times n (claims m.0) < 2)
 
-  -- two seats' lists, one after the other's
+  -- two seats as one: the lists of the second after those of the first
   abbrev pub joined : Doing X → Doing X → Doing X
   joined (Live k) (Live l) = Live (record {
     claimed = k.claimed ++ l.claimed;
@@ -136,7 +140,7 @@ module _ {X : Type 0} where
   split_off (Live k) = fresh k.about
   split_off Spent = Spent
 
-  -- no claim is being worked on
+  -- whether a seat works on no claim
   abbrev pub is_idle : Doing X → Bool
   is_idle Spent = false
   is_idle (Live k) = is_none k.held

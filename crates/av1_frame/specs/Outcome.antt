@@ -1,4 +1,5 @@
--- What coding the tiles of a frame leaves: one record of all that is made, what stands afterwards, and what refuses it.
+-- What coding the tiles of a frame leaves: a record of all that is made, what stands
+-- afterwards, and what refuses the tiles.
 use Rattle.std.specs.Prelude.{ℕ, ℤ, List, Some, None, ◌≡◌, ◌⊎◌, if◌then◌else◌}
 use Rattle.av1_plane.specs.declared.three.Three.{Three}
 use Rattle.av1_block.specs.declared.block.Block.{Block}
@@ -20,10 +21,11 @@ pub record Job : Type 0 where
   pub blocks : List Block
   pub results : List Meaning
 
--- the job of a coder with this meaning, by the entries of the block table and by the table
+-- the job of a coder with this meaning, by the entries of the block table
 abbrev pub job_of : (View → Meaning) → Parameters → State → List Block → Job
 job_of meaning p s blocks = record { parameters = p; state = s; blocks = blocks; results = meanings meaning p s blocks }
 
+-- the job of a coder with this meaning, by the block table
 abbrev pub job : (View → Meaning) → Parameters → State → Rows Block → Job
 job meaning p s table = job_of meaning p s table.entries
 
@@ -39,7 +41,7 @@ job_tables j = state_tables j.state (record {
 abbrev pub IsCoded : Job → Tables → Type 0
 IsCoded j c = AreCoded (tile_views j.results) (job_tables j) c
 
--- all that coding a group makes
+-- all that coding a tile group makes
 pub record Outcome : Type 0 where
   pub bytes : List ℕ
   pub levels : List ℕ
@@ -52,7 +54,7 @@ pub record Outcome : Type 0 where
 abbrev pub coded_of : Job → Tables
 coded_of j = coded_tables (job_tables j) (tile_views j.results)
 
--- the reference's picture: what was coded, deblocked at these levels and then through the stages that the sequence has
+-- the picture of the reference: what was coded, after deblocking at these levels, CDEF and restoration
 abbrev pub reference_of : Job → List ℕ → Tables → Three (List (List ℤ))
 reference_of j levels c =
     visible_picture j.parameters
@@ -62,12 +64,13 @@ reference_of j levels c =
 abbrev pub chosen_levels : Job → Tables → List ℕ
 chosen_levels j c = levels_of j.parameters c.blocks.entries c.rec j.state.input
 
--- the tile whose contexts the next frame begins with: the last of the longest, unless that is switched off
+-- the tile whose contexts the next frame begins with: the last of the longest, or the state's own
 abbrev pub context_tile_of : Job → ℕ
 context_tile_of j =
     if j.parameters.disable_frame_end_update_cdf then j.state.context_update_tile_id
     else longest (tile_bytes j.results)
 
+-- the outcome of a job whose results are accepted
 abbrev pub outcome : Job → Outcome
 outcome j = record {
   bytes = framed (tile_bytes j.results);
@@ -97,7 +100,7 @@ pub record Holds (j : Job) (o : Outcome) (group : List ℕ) (s : State) (blocks 
 abbrev pub LeavesOutcome : Job → List ℕ → State → Rows Block → Type 0
 LeavesOutcome j group s table = Holds j (outcome j) group s table.entries
 
--- nothing is refused
+-- no result of a job is refused
 abbrev pub IsAccepted : Job → Type 0
 IsAccepted j = refusal j.parameters j.results ≡ None
 

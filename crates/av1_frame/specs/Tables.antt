@@ -15,10 +15,11 @@ module _ {T C : Type 0} where
   abbrev pub tiles : TileTable T C → ℕ
   tiles t = t.table.shared.table_id.words
 
-  -- the tiles that a seat claimed, and those that it found taken
+  -- the tiles that a seat claimed
   abbrev pub claimed : {g : _} → TileSeat T C g → List ℕ
   claimed s = claims s.seat.me.0
 
+  -- the tiles that a seat found taken
   abbrev pub missed : {g : _} → TileSeat T C g → List ℕ
   missed s = misses s.seat.me.0
 

@@ -8,34 +8,34 @@ use Rattle.av1_block.specs.declared.restoration_unit.RestorationUnit.{Restoratio
 use Rattle.av1_tiling.specs.Restoration.{down_coeffs, across_coeffs}
 use Rattle.av1_tiling.specs.Views.{Part}
 
--- a number from low to high
+-- whether a number is from low to high
 abbrev pub is_between : (low high n : ℤ) → Bool
 is_between low high n = int_le low n && int_le n high
 
--- three coefficients of a Wiener filter
+-- whether these are three coefficients of a Wiener filter
 abbrev pub are_coeffs : List ℤ → Bool
 are_coeffs cs =
     is_between (neg_ℤ (pos 5)) (pos 10) (slice_index_or cs 0 (pos 0))
     && (is_between (neg_ℤ (pos 23)) (pos 8) (slice_index_or cs 1 (pos 0))
     && is_between (neg_ℤ (pos 17)) (pos 46) (slice_index_or cs 2 (pos 0)))
 
--- the weights of both passes of the self-guided filter
+-- whether these are the weights of both passes of the self-guided filter
 abbrev pub are_weights : List ℤ → Bool
 are_weights xqd =
     is_between (neg_ℤ (pos 96)) (pos 31) (slice_index_or xqd 0 (pos 0))
     && is_between (neg_ℤ (pos 32)) (pos 95) (slice_index_or xqd 1 (pos 0))
 
--- a filter that a bitstream can describe
+-- whether a bitstream can describe a filter
 abbrev pub is_filter : RestorationFilter → Bool
 is_filter None = true
 is_filter (Wiener coeffs) = are_coeffs (down_coeffs coeffs) && are_coeffs (across_coeffs coeffs)
 is_filter (Sgrproj set xqd) = nat_lt set 16 && are_weights xqd
 
--- a unit whose filter is one
+-- whether a bitstream can describe a unit
 abbrev pub is_unit : RestorationUnit → Bool
 is_unit unit = is_filter unit.filter
 
--- all units of a tile are, in each of its planes
+-- whether a bitstream can describe all units of a tile, in each of its planes
 abbrev pub are_units : Three (Part RestorationUnit) → Bool
 are_units parts =
     list_all is_unit parts.y.entries && (list_all is_unit parts.u.entries && list_all is_unit parts.v.entries)

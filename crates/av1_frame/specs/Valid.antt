@@ -17,7 +17,7 @@ IsPartInDepth bound cfg part =
     (x y : ℕ) → x < inner_columns cfg part → y < inner_rows cfg part
     → InDepth bound (at part.entries part.rect.width x y)
 
--- those inside the planes of its frame are below 2 ^ bit depth
+-- the samples of a tile that lie inside the planes of its frame are below 2 ^ bit depth
 pub record AreInDepth (p : Parameters) (parts : Three (Part ℤ)) : Type 0 where
   pub y : IsPartInDepth (2 ^ p.sequence.bit_depth) (frame_layout p.width p.height p.sequence.chroma_sampling).y parts.y
   pub u : IsPartInDepth (2 ^ p.sequence.bit_depth) (frame_layout p.width p.height p.sequence.chroma_sampling).u parts.u
@@ -38,10 +38,10 @@ pub record IsValidTile (p : Parameters) (tile : List ℕ × View) : Type 0 where
   pub blocks : All (IsBlock (decimations_of p.sequence.chroma_sampling).0 (decimations_of p.sequence.chroma_sampling).1) tile.1.blocks.entries
   pub units : AreUnitParts tile.1.ts.units
 
--- a result that isn't a refusal, of a valid tile
+-- a result of a valid tile, which isn't a refusal
 abbrev pub IsValid : Parameters → Meaning → Type 0
 IsValid p m = IsSomeAnd m (IsValidTile p)
 
--- nothing is refused exactly where all results are valid
+-- a group isn't refused exactly where all its results are valid
 abbrev pub RefusesInvalid : Type 0
 RefusesInvalid = (p : Parameters) (results : List Meaning) → (refusal p results ≡ None) ↔ All (IsValid p) results

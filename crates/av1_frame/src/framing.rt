@@ -61,7 +61,7 @@ fn extend_sized(group: &mut Vec<u8>, tiles: &[Vec<u8>], size_bytes: u32) -> Resu
     Ok(())
 }
 
-// A number in so many bytes, the lowest first.
+// A number in `count` bytes, the lowest first.
 fn le_bytes(number: usize, count: u32) -> ArrayVec<u8, 4>
     requires { count ≤ 4 }
     ensures { result.items ≡ little_endian count number }

@@ -13,7 +13,7 @@ pub fn reads_framed()
     ensures { ReadsFramed }
 {}
 
-/// Two lists of one number that are framed as the same bytes are the same.
+/// Lists of equally many tiles that are framed as equal bytes are equal.
 pub fn framed_once()
     ensures { IsFramedOnce }
 {}
@@ -24,8 +24,8 @@ pub fn core_any_order<R>()
     ensures { CoreAnyOrder R }
 {}
 
-/// Views that lie in tables and have no place in common may be put in in the order in which any number of
-/// workers delivers them: the tables are those that have each view's content in its rectangles.
+/// Views of tables that have no place in common may be put into them in the order in which any number of
+/// workers delivers the views: the tables then have each view's content in its rectangles.
 pub fn coded_any_order()
     ensures { CodedAnyOrder }
 {}

@@ -2,7 +2,7 @@
 ghost use Rattle.std.specs.Prelude.{◌≡◌, map};
 ghost use Rattle.av1_frame.specs.Framing.{greatest, longest};
 
-/// The greatest length of tiles, and the last tile of that length.
+/// The greatest length of tiles, and the last tile with this length.
 #[derive(Clone, Copy)]
 pub(crate) struct Longest {
     pub tile: usize,

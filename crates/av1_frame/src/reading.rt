@@ -17,7 +17,7 @@ fn number_of(bytes: &[u8]) -> usize
     }
 }
 
-// The next tile, which stands behind its size less one, and what follows it.
+// The next tile, which stands behind its size less one, and the bytes behind the tile.
 fn split_tile(bytes: &[u8], size_bytes: usize) -> Option<(&[u8], &[u8])>
     requires { size_bytes ≤ 4 }
     ensures none { IfNone result (length bytes.now < size_bytes + next_size size_bytes bytes.now) }
@@ -62,7 +62,7 @@ fn read_tiles(
     Ok(Some(list))
 }
 
-// The tiles of a group of so many tiles.
+// The tiles of a group of `tiles` tiles.
 fn read_group(
     alloc: Global,
     bytes: &[u8],
@@ -85,7 +85,7 @@ fn read_group(
     }
 }
 
-/// The tiles of a tile group of so many tiles, whose sizes take `size_bytes` bytes: the one list that
+/// The tiles of a tile group of `tiles` tiles, whose sizes take `size_bytes` bytes: the one list that
 /// is framed as these bytes, and `None` where there is no such list.
 pub fn read_tile_group(
     alloc: Global,

@@ -30,7 +30,7 @@ impl<T: Pixel, C: TileCoder<T>> TableRule<Place<T>, Know<T, C>, Key<T, C>> for H
     ghost first = { λ key. fresh (about_of key) };
 }
 
-/// A seat claims a tile, or finds it taken.
+/// The step in which a seat claims a tile, or finds the tile taken.
 pub(crate) struct Claim<T, C> {
     marker: PhantomData<(T, C)>,
 }
@@ -46,7 +46,7 @@ impl<S, X> Play<S, Doing<X>> for Finish {
     ghost then = { Finished };
 }
 
-/// A seat learns that no tile stands twice among those that it claimed.
+/// The step in which a seat learns that it claimed no tile twice.
 pub(crate) struct Look;
 
 impl<S, X> Play<S, Doing<X>> for Look {

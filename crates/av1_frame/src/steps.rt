@@ -139,9 +139,9 @@ impl<'a, T: Pixel, C: TileCoder<T>> TileTable<'a, T, C> {
         shared.load::<Look>(&mut seat.seat, 0);
     }
 
-    /// Claims a tile, and codes it if the claim found it free; the gate is told first, of this worker.
+    /// Claims a tile, and codes the tile if it was free; the gate first hears of the claim.
     ///
-    /// Answers whether it was free.
+    /// The answer says whether the tile was free.
     pub fn turn<G: Gate>(
         &self,
         alloc: Global,

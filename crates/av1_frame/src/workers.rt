@@ -77,7 +77,7 @@ fn spread<T: Pixel + Send + Sync, C: TileCoder<T>, G: Gate, R: Threads + Sync>(
     seat
 }
 
-// What workers make of these views, by number.
+// The results that workers make of the tiles' views, in the order of the tiles.
 fn deliver<T: Pixel + Send + Sync, C: TileCoder<T>, G: Gate, R: Threads + Sync>(
     rt: &R,
     alloc: Global,
@@ -127,7 +127,7 @@ fn coded_tile<T: Pixel>(done: Delivered<T>) -> Result<Option<CodedTile<T>>, OutO
     }
 }
 
-// Cuts the view of a tile anew, and codes it here.
+// Cuts the view of a tile anew, and codes the tile in this worker.
 fn code_here<T: Pixel, C: TileCoder<T>>(
     alloc: Global,
     tiling: &TilingInfo,
@@ -172,7 +172,7 @@ fn finish_tile<T: Pixel, C: TileCoder<T>>(
     }
 }
 
-// All tiles, by what workers made of them.
+// All tiles of a frame, by the results that workers delivered.
 fn finish_tiles<T: Pixel, C: TileCoder<T>>(
     alloc: Global,
     tiling: &TilingInfo,
@@ -198,9 +198,9 @@ fn finish_tiles<T: Pixel, C: TileCoder<T>>(
     Ok(tiles)
 }
 
-/// Codes all tiles of a frame, by so many workers: `None` stands for a tile that the coder refused.
+/// Codes all tiles of a frame by `workers` workers; `None` stands for a tile that the coder refused.
 ///
-/// No worker counts as one, and more than tiles as the number of tiles.
+/// No workers count as one worker, and more workers than tiles as one for each tile.
 pub(crate) fn code_tiles<T: Pixel + Send + Sync, C: TileCoder<T>, G: Gate, R: Threads + Sync>(
     rt: &R,
     alloc: Global,

@@ -7,9 +7,11 @@ use Rattle.av1_frame.proofs.Framings.{framed_is, filled_front, flags, flags_of}
 use Rattle.av1_frame.proofs.framing.build_raw_tile_group.Goals as goal
 use Rattle.av1_frame.proofs.framing.build_raw_tile_group.Goals.{then-tile_count-gt1+in_ok-push, else-tile_count-gt1}
 
+-- a number of at least 1 is not 0
 several : (n : ℕ) → 1 ≤ n → (n == 0) ≡ false
 several n l = grind (arith, nat_tests)
 
+-- a number that is 0 tests as 0
 no_other : (n : ℕ) → n ≡ 0 → (n == 0) ≡ true
 no_other n e = grind (arith, nat_tests)
 

@@ -3,7 +3,7 @@ use Rattle.std.specs.Prelude.{option_map}
 use Rattle.av1_frame.specs.Framing.{parsed}
 use Rattle.av1_frame.proofs.reading.read_tiles.Given as goal
 
--- the tiles so far stand before what is still to be read
+-- The tiles read stand before the tiles that are still to be read.
 abbrev pub invariant-loop : goal.invariant-loop
 invariant-loop l =
     parsed l.size_bytes (l.tiles - 1) l.bytes

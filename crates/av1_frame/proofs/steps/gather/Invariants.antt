@@ -3,6 +3,7 @@ use Rattle.std.specs.Slots.{slots_items, slots_filled, slots_len}
 use Rattle.av1_frame.specs.AtHome.{Gathered}
 use Rattle.av1_frame.proofs.steps.gather.Given as goal
 
+-- The first i slots are emptied and gathered, and the others are still full.
 abbrev pub invariant-loop-i : goal.invariant-loop-i
 invariant-loop-i g l = record {
   left : (k : ℕ) → l.i ≤ k → k < l.count → get_or (slots_filled l.closed.slots) k false ≡ true;

@@ -5,7 +5,7 @@ use Rattle.av1_tiling.specs.Frames.{views}
 use Rattle.av1_frame.specs.Worked.{IsCodedFrom}
 use Rattle.av1_frame.proofs.workers.finish_tiles.Given as goal
 
--- so many tiles are finished, and the other entries are left
+-- The tiles of the entries before this one are finished, and the other entries are left.
 abbrev pub invariant-loop-entry : goal.invariant-loop-entry
 invariant-loop-entry g l = record {
   can : (goal.iterator-loop-entry g).can_next l.entry-iterator;
