@@ -1,4 +1,4 @@
--- A text that is read begins with the parameters of one frame, and with an input made for it.
+-- A text that is read begins with the parameters of one frame, and with an input made for the frame.
 use Rattle.std.proofs.Common.{◌≡◌, ◌≤◌, ℕ, ◌^◌, Bool, true, false, cond, eqb, ◌||◌, refl, sym, subst, arith}
 use Rattle.std.specs.Prelude.{IsTrue}
 use Rattle.std.proofs.lemmas.Bool.Decides.{nat_tests}
@@ -16,7 +16,7 @@ use Rattle.av1_rec.proofs.PictureRange.{source_in_range}
 use Rattle.av1_rec.proofs.TileFacts.{grid_found}
 use Rattle.std.specs.Prelude.{Ok}
 
--- sides that aren't single samples
+-- sides that pass the test for large units have two samples or more
 two_samples : (w h : ℕ) → cond (eqb w 1 || eqb h 1) false true ≡ true → 1 ≤ w → 1 ≤ h → (2 ≤ w) × (2 ≤ h)
 two_samples w h e some_w some_h = (grind (arith, nat_tests), grind (arith, nat_tests))
 
@@ -45,11 +45,11 @@ header_frame limit h t right tiled fits = record {
   large_units = λ large on. large_sides h.format h.switches.enable_restoration h.switches.enable_large_lru right.large large on right.width.0 right.height.0;
 }
 
--- so are parameters that are these
+-- parameters that are those of a right header are the parameters of one frame
 pub frame_made : (limit : ℕ) (p : Parameters) (h : Header) (t : TilingInfo) → p ≡ frame_parameters h t → IsHeader h → tiling h ≡ Ok t → FitsDepth limit h.format.depth → IsFrame limit p
 frame_made limit p h t same right tiled fits = subst (IsFrame limit) (sym same) (header_frame limit h t right tiled fits)
 
--- its source is an input of the frame
+-- the source of a text that is read is an input of its frame
 input_of : (s : Said) → IsRead s → IsInputFor (frame_parameters s.header s.tiling) (source_frame s.header.format s.source)
 unfolding source_frame
 input_of s read =
@@ -57,6 +57,6 @@ input_of s read =
     let ranges = source_in_range bound (pow_pos s.header.format.depth) s.header.format s.source read.depth in
     record { layout = refl; y_range = ranges.0; u_range = ranges.1; v_range = ranges.2 }
 
--- and of parameters that are the frame's
+-- the source of a text that is read is an input for parameters that are the frame's
 pub source_made : (p : Parameters) (s : Said) → p ≡ frame_parameters s.header s.tiling → IsRead s → IsInputFor p (source_frame s.header.format s.source)
 source_made p s same read = subst (λ q. IsInputFor q (source_frame s.header.format s.source)) (sym same) (input_of s read)

@@ -11,7 +11,7 @@ use Rattle.av1_rec.specs.declared.text.block_line.BlockLine.{BlockLine}
 use Rattle.av1_rec.specs.BlockTable.{holds, block_after, blocks_said}
 use Rattle.av1_rec.proofs.FirstValues.{by_places, all_lines}
 
--- what a list holds after one write
+-- an entry is the written one at its place, and the old one elsewhere
 pub read_set : (xs : List Block) (p i : ℕ) (v : Block) → p < length xs → get_or (set xs p v) i default_block ≡ (if i == p then v else get_or xs i default_block)
 read_set xs p i v l =
     let here : get_or (set xs p v) p default_block ≡ v = get_or-set_same xs p v default_block l in
@@ -25,6 +25,7 @@ row_before s x k y h l =
     let all : (k + 1) * s ≤ y * s = mul-le (k + 1) s y s (omega arith) (omega arith) in
     omega arith
 
+-- A place of a row stands behind all rows above.
 row_behind : (s x k y : ℕ) → y < k → y * s + s ≤ k * s + x
 row_behind s x k y l =
     let all : (y + 1) * s ≤ k * s = mul-le (y + 1) s k s (omega arith) (omega arith) in
@@ -42,17 +43,18 @@ row_written cols left right top y x k b old ys zs hx hr ht f before =
     let same : k ≡ y → k * cols ≡ y * cols = λ e. ap (λ n. n * cols) e in
     grind (arith, nat_tests)
 
--- inside the table a line's rectangle is the one that is cut to it
+-- inside a table a line's rectangle holds the places that the rectangle cut to the table holds
 pub cut_holds : (cols rows x y : ℕ) (line : BlockLine) (b old : Block) → x < cols → y < rows
     → (if (nat_le (min line.x (min (line.x + line.cols) cols)) x && nat_lt x (min (line.x + line.cols) cols)) && (nat_le (min line.y (min (line.y + line.rows) rows)) y && nat_lt y (min (line.y + line.rows) rows)) then b else old)
     ≡ (if holds line x y then b else old)
 cut_holds cols rows x y line b old hx hy = grind (arith, nat_tests)
 
--- one line more
+-- one line more writes its block over those of the lines before
 after_more : (lines : List BlockLine) (line : BlockLine) (before : Block) (x y : ℕ) → block_after before (lines ++ line ∷ []) x y ≡ (if holds line x y then line.block else block_after before lines x y)
 after_more [] line before x y = refl
 after_more (l ∷ lines) line before x y = after_more lines line (if holds l x y then l.block else before) x y
 
+-- An entry that the next line has written is the block after one line more.
 pub line_written : (lines : List BlockLine) (line : BlockLine) (i x y : ℕ) (entry old : Block) → i < length lines → line ≡ get_or lines i line
     → old ≡ block_after default_block (take i lines) x y → entry ≡ (if holds line x y then line.block else old) → entry ≡ block_after default_block (take (i + 1) lines) x y
 line_written lines line i x y entry old lt e so_far now =
@@ -72,7 +74,7 @@ unfolding blocks_said
 all_said cols rows lines items count f =
     by_places default_block (λ x y. block_after default_block lines x y) cols rows items count f
 
--- all lines were written
+-- a table into which all lines were written is the table that they describe
 pub lines_written : (cols rows i : ℕ) (lines : List BlockLine) (items : List Block) → length lines ≤ i → length items ≡ cols * rows
     → ((x y : ℕ) → x < cols → y < rows → entry_at items cols x y ≡ block_after default_block (take i lines) x y) → items ≡ blocks_said cols rows lines
 lines_written cols rows i lines items le count f =

@@ -1,19 +1,22 @@
--- Lists of the values of a function, and tables of such values, row by row.
+-- Lists of the values of a function, and tables of the values of a function, row by row.
 use Rattle.std.proofs.Common.{◌≡◌, ℕ, zero, suc, ◌+◌, ◌*◌, ◌/◌, ◌%◌, ◌<◌, ◌≤◌, List, [], ◌∷◌, ◌++◌, length, take, map, get_or, ◌⊎◌, inl, inr, ap, refl, sym, ◌∙◌, length-append, arith}
 use Rattle.std.proofs.lemmas.Nat.{div-add-mod', div_below, mod_below}
 use Rattle.std.proofs.lemmas.List.{ext_get_or, get_or_append_left, get_or_push, map_push}
 use Rattle.std.proofs.lemmas.Bool.{cases_lt}
 use Rattle.av1_rec.specs.BlockTable.{first_values}
 
+-- A table with a place has a column.
 pub some_column : (cols rows i : ℕ) → i < cols * rows → 0 < cols
 some_column zero rows i lt = let none : 0 * rows ≡ 0 = omega arith in absurd (omega arith)
 some_column (suc cols) rows i lt = omega arith
 
 module _ {A : Type 0} where
+  -- There are n first values of a function below n.
   pub first_count : (f : ℕ → A) (n : ℕ) → length (first_values f n) ≡ n
   first_count f zero = refl
   first_count f (suc n) = let e : length (first_values f n) ≡ n = first_count f n in omega (arith, length-append {A = A} (first_values f n) (f n ∷ []))
 
+  -- The first values of a function have its value at i in place i.
   pub first_at : (f : ℕ → A) (n i : ℕ) (d : A) → i < n → get_or (first_values f n) i d ≡ f i
   first_at f zero i d lt = absurd (omega arith)
   first_at f (suc n) i d lt = choose (first_at f n i d) (cases_lt i n)
@@ -39,14 +42,14 @@ module _ {A : Type 0} where
           let place : i ≡ i / cols * cols + i % cols = sym (div-add-mod' i cols) in
           ap (λ n. get_or items n d) place ∙ f (i % cols) (i / cols) column row
 
-  -- as many as there are are all
+  -- as many elements of a list as it has are all of them
   pub all_lines : (xs : List A) (i : ℕ) → length xs ≤ i → take i xs ≡ xs
   all_lines [] zero le = refl
   all_lines [] (suc i) le = refl
   all_lines (x ∷ xs) zero le = absurd (omega arith)
   all_lines (x ∷ xs) (suc i) le = ap (λ (m : List A). x ∷ m) (all_lines xs i (omega arith))
 
--- one value more
+-- one value more of a function is made
 pub values_more : {X A : Type 0} (view : X → A) (f : ℕ → A) (items new : List X) (x : X) (n : ℕ) → new ≡ items ++ x ∷ [] → map view items ≡ first_values f n → view x ≡ f n → map view new ≡ first_values f (n + 1)
 values_more view f items new x n pushed so_far here =
     let k : suc n ≡ n + 1 = omega arith in

@@ -9,7 +9,7 @@ pub no_lines : (t : TilingInfo) (first : List ℕ) → first ≡ first ++ tile_t
 unfolding tile_texts
 no_lines t first = sym (append-nil first)
 
--- one more tile has its line behind the others
+-- one tile more adds its line behind the lines of the tiles before
 pub lines_more : (t : TilingInfo) (n : ℕ) (first before after : List ℕ) → after ≡ before ++ tile_text t n → before ≡ first ++ tile_texts t n
     → after ≡ first ++ tile_texts t (n + 1)
 unfolding tile_texts

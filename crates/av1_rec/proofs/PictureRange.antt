@@ -1,4 +1,4 @@
--- A frame that holds a picture whose samples are below a bound has all its samples below it.
+-- A frame that holds a picture whose samples are below a bound has all its samples below the bound.
 use Rattle.std.proofs.Common.{ℕ, ℤ, pos, ◌+◌, ◌*◌, ◌/◌, ◌%◌, ◌<◌, List, [], length, get_or, inl, inr, All, sym, subst, arith}
 use Rattle.std.proofs.lemmas.List.{get_or_past}
 use Rattle.std.proofs.lemmas.Bool.{cases_lt}
@@ -13,6 +13,7 @@ use Rattle.av1_rec.specs.Picture.{picture_sample, nearest_sample, picture_plane,
 use Rattle.av1_rec.proofs.FirstValues.{first_count, first_at}
 
 module _ (bound : ℕ) (some : 0 < bound) where
+  -- The sample 0 is below the bound.
   zero_below : InDepth bound (pos 0)
   zero_below = (grind arith, grind arith)
 
@@ -23,26 +24,31 @@ module _ (bound : ℕ) (some : 0 < bound) where
     | inr past ↦ subst (InDepth bound) (sym (get_or_past xs i (pos 0) past)) zero_below
   ]
 
+  -- The samples of each row are below the bound.
   row_below : (rows : List (List ℤ)) → AreBelow bound rows → (y : ℕ) → All (InDepth bound) (get_or rows y [])
   row_below rows all y = elim (cases_lt y (length rows)) [
     | inl inside ↦ all y [] inside
     | inr past ↦ subst (All (InDepth bound)) (sym (get_or_past rows y [] past)) (λ k d l. absurd (omega (arith, l)))
   ]
 
+  -- Each sample of a picture is below the bound, also past its end.
   sample_below : (rows : List (List ℤ)) → AreBelow bound rows → (x y : ℕ) → InDepth bound (picture_sample rows x y)
   sample_below rows all x y = entry_below (get_or rows y []) (row_below rows all y) x
 
+  -- The first values of a function are below the bound where each of its values is.
   values_below : (f : ℕ → ℤ) → ((k : ℕ) → InDepth bound (f k)) → (n : ℕ) → All (InDepth bound) (first_values f n)
   values_below f each n k d l =
       let inside : k < n = let count = first_count f n in omega (arith, count, l) in
       subst (InDepth bound) (sym (first_at f n k d inside)) (each k)
 
+  -- A plane that holds a picture below a bound is in range.
   pub plane_in_range : (cfg : PlaneConfig) (w h : ℕ) (rows : List (List ℤ)) → AreBelow bound rows → IsInRange bound (picture_plane cfg w h rows)
   plane_in_range cfg w h rows all x y hx hy =
       entry_below (picture_plane cfg w h rows).samples
       (values_below (λ k. nearest_sample cfg (visible w cfg.xdec) (visible h cfg.ydec) rows (k % cfg.stride) (k / cfg.stride)) (λ k. sample_below rows all _ _) (cfg.stride * cfg.alloc_height))
       ((cfg.yorigin + y) * cfg.stride + (cfg.xorigin + x))
 
+  -- The planes of a frame that holds a picture below a bound are in range.
   pub source_in_range : (f : FrameFormat) (s : Three (List (List ℤ))) → IsPictureBelow bound s
       → IsInRange bound (source_frame f s).y × IsInRange bound (source_frame f s).u × IsInRange bound (source_frame f s).v
   unfolding source_frame

@@ -28,25 +28,30 @@ bind_ok : {A B P : Type 0} (r : Result A Fault) (f : A → Result B Fault) (y : 
 bind_ok (Ok x) f y e k = k x refl e
 bind_ok (Err fault) f y e k = absurd cc
 
+-- Two results that are equal and right hold equal values.
 same_ok : {A : Type 0} (x y : A) → ◌≡◌ {A = Result A Fault} (Ok x) (Ok y) → x ≡ y
 same_ok x y e = cc
 
+-- A line that was read comes from a value that was read.
 line_some : {A : Type 0} (left : ℕ) (o : Option A) (x : A) → line_or left o ≡ Ok x → o ≡ Some x
 line_some left None x e = absurd cc
 line_some left (Some a) x e = ap (λ b. Some b) (same_ok a x e)
 
+-- Everything holds of all elements of an empty list.
 none_of : {A : Type 0} (P : A → Type 0) → All P []
 none_of P k d l = absurd (omega (arith, l))
 
+-- What holds of an element and of a list holds of the list with the element at its front.
 one_more : {A : Type 0} (P : A → Type 0) (x : A) (xs : List A) → P x → All P xs → All P (x ∷ xs)
 one_more P x xs p all zero d l = p
 one_more P x xs p all (suc k) d l = all k d (omega (arith, l))
 
--- a sample is below its limit
+-- a value that is given only under a test was given, and passed the test
 if_some : (b : Bool) (v w : ℕ × List ℕ) → cond b (Some v) None ≡ Some w → (b ≡ true) × (v ≡ w)
 if_some true v w e = (refl, same_Some v w e)
 if_some false v w e = absurd cc
 
+-- A sample that was read is below its limit.
 below_right : (wide : Bool) (limit : ℕ) (text : List ℕ) (v : ℕ × List ℕ) → below wide limit text ≡ Some v → v.0 < limit
 unfolding below
 below_right wide limit text v e =
@@ -54,11 +59,12 @@ below_right wide limit text v e =
     let p = if_some (nat_lt w.0 limit) w v test in
     subst (λ (u : ℕ × List ℕ). u.0 < limit) p.1 (ltb-true w.0 limit p.0))
 
--- so many samples, all below the limit
+-- a row of `count` samples, all below the limit
 record IsRow (limit count : ℕ) (vs : List ℤ) : Type 0 where
   long : length vs ≡ count
   below : All (InDepth limit) vs
 
+-- A row that was read has the asked number of samples, each below the limit.
 row_right : (wide : Bool) (limit count : ℕ) (text : List ℕ) (x : List ℤ × List ℕ) → row wide limit count text ≡ Some x → IsRow limit count x.0
 unfolding row
 row_right wide limit zero text x e =
@@ -74,8 +80,9 @@ row_right wide limit (suc count) text x e =
       below = one_more (InDepth limit) (pos v.0) vs.0 (grind arith, grind arith) so_far.below;
     })))
 
--- so many of what is read, each of which is right
+-- A list of parts that is read has right parts where each part that is read is right.
 module _ {A : Type 0} (P : A → Type 0) (read : List ℕ → Result (A × List ℕ) Fault) (right : (text : List ℕ) (x : A × List ℕ) → read text ≡ Ok x → P x.0) where
+  -- A list that was read has the asked number of parts, each of them right.
   many_right : (count : ℕ) (text : List ℕ) (x : List A × List ℕ) → many read count text ≡ Ok x → (length x.0 ≡ count) × All P x.0
   unfolding many
   many_right zero text x e =
@@ -93,17 +100,20 @@ record AreRows (limit : ℕ) (extent : Extent) (rs : List (List ℤ)) : Type 0 w
   sides : AreRowsOf extent rs
   below : AreBelow limit rs
 
+-- Rows that were read have the asked sides, and samples below the limit.
 rows_right : (wide : Bool) (limit : ℕ) (sides : Extent) (text : List ℕ) (x : List (List ℤ) × List ℕ) → text_rows wide limit sides.width sides.height text ≡ Ok x → AreRows limit sides x.0
 rows_right wide limit sides text x e =
     let right = many_right (IsRow limit sides.width) (text_line (row wide limit sides.width)) (λ t v read. row_right wide limit sides.width t v (line_some (length t) (row wide limit sides.width t) v read)) sides.height text x e in
     let long : list_all (λ row. length row == sides.width) x.0 ≡ true = list_all-from_AllPass (λ row. length row == sides.width) x.0 (λ k d l. eq-eqb (length (get_or x.0 k d)) sides.width (right.1 k d l).long) in
     record { sides = rw (right.0, eq-eqb sides.height sides.height refl) long; below = λ k d l. (right.1 k d l).below }
 
+-- the rows of luma and of both chroma planes have these sides, and samples below the limit
 record ArePlanes (limit : ℕ) (luma chroma : Extent) (s : Three (List (List ℤ))) : Type 0 where
   y : AreRows limit luma s.y
   u : AreRows limit chroma s.u
   v : AreRows limit chroma s.v
 
+-- Planes that were read have the asked sides, and samples below the limit.
 planes_right : (wide : Bool) (limit : ℕ) (luma chroma : Extent) (text : List ℕ) (x : Three (List (List ℤ)) × List ℕ) → planes wide limit luma chroma text ≡ Ok x → ArePlanes limit luma chroma x.0
 unfolding planes
 planes_right wide limit luma chroma text x e =
@@ -116,7 +126,7 @@ planes_right wide limit luma chroma text x e =
       v = rows_right wide limit chroma u.1 v read_v;
     }))))
 
--- the source that was read
+-- a source that was read has the sides and the depth of the frame
 source_right : (f : FrameFormat) (text : List ℕ) (x : Three (List (List ℤ)) × List ℕ) → source_rows f text ≡ Ok x → HasPictureRows f x.0 × IsPictureBelow (2 ^ f.depth) x.0
 unfolding source_rows
 source_right f text x e =
@@ -124,7 +134,7 @@ source_right f text x e =
     let p = planes_right (is_wide f) (2 ^ f.depth) (luma_picture f) (chroma_picture f (decimation f.sampling)) rest x read in
     (record { y = p.y.sides; u = p.u.sides; v = p.v.sides }, record { y = p.y.below; u = p.u.below; v = p.v.below }))
 
--- what follows a header, read to its end
+-- what follows a header and was read has the sides and the depth of the frame
 body_right : (h : Header) (t : TilingInfo) (text : List ℕ) (s : Said) → body h t text ≡ Ok s
     → (s.header ≡ h) × (s.tiling ≡ t) × HasPictureRows h.format s.source × IsPictureBelow (2 ^ h.format.depth) s.source
 unfolding body
@@ -148,7 +158,7 @@ read_right h t text s right tiled e =
       depth = subst (λ (x : Header). IsPictureBelow (2 ^ x.format.depth) s.source) (sym same) p.3;
     }
 
--- what the program keeps of a text is so, and has samples of the type of its depth
+-- what the program keeps of a text was read to its end, with samples of the type of its depth
 pub text_read : {X : Type 0} (number : X → ℤ) (limit : ℕ) (h : Header) (t : TilingInfo) (text : List ℕ) (x : Text X)
     → IsHeader h → tiling h ≡ Ok t → FitsDepth limit h.format.depth → body h t text ≡ Ok (said number x) → IsRead (said number x) × FitsDepth limit x.header.format.depth
 text_read number limit h t text x right tiled fits e =

@@ -21,11 +21,12 @@ use Rattle.av1_rec.specs.Picture.{picture_sample, nearest_sample, picture_plane,
 use Rattle.av1_rec.proofs.RecordedRows.{row_long}
 use Rattle.av1_rec.proofs.FirstValues.{by_places}
 
+-- The numbers of a row are the row of the numbers.
 pub row_of : {T : Type 0} (number : T → ℤ) (rows : List (Vec T Global)) (y : ℕ) (row : Vec T Global) → y < length rows → row ≡ get_or rows y row → get_or (numbers_of number rows) y [] ≡ map number row.items
 row_of number rows y row below read =
     get_or-map (λ (r : Vec _ Global). map number r.items) rows y row [] below ∙ ap (λ (r : Vec _ Global). map number r.items) (sym read)
 
--- rows that fit, as numbers
+-- rows that fit a plane fit it as numbers
 pub fits_of : {T : Type 0} (number : T → ℤ) (left s : ℕ) (rows : List (Vec T Global)) → All (λ (row : Vec T Global). left + length row.items ≤ s) rows → (k : ℕ) → k < length rows → left + length (get_or (numbers_of number rows) k []) ≤ s
 fits_of number left s [] all k below = absurd (omega arith)
 fits_of number left s (r ∷ rows) all k below =
@@ -35,10 +36,11 @@ fits_of number left s (r ∷ rows) all k below =
     let fits : left + length row.items ≤ s = all k r below in
     omega (arith, long, fits)
 
+-- Samples that were written over a list are written over the list of its numbers.
 pub numbers_written : {T : Type 0} (number : T → ℤ) (old new run : List T) (i : ℕ) → new ≡ overwritten old i run → map number new ≡ overwritten (map number old) i (map number run)
 numbers_written number old new run i e = ap (map number) e ∙ map-overwritten number old i run
 
--- one row more is written
+-- one row more of a picture is written
 pub row_more : (s left top i : ℕ) (rs : List (List ℤ)) (xs ys run : List ℤ) → get_or rs i [] ≡ run → i < length rs
     → ((k : ℕ) → k < length rs → left + length (get_or rs k []) ≤ s) → (top + length rs) * s ≤ length xs → ys ≡ overwritten xs (top * s + i * s + left) run
     → ((x y : ℕ) → y < i → x < length (get_or rs y []) → at xs s (left + x) (top + y) ≡ picture_sample rs x y)
@@ -63,7 +65,7 @@ row_more s left top i rs xs ys run read below fits stored written before x y hy 
           ∙ (ap (λ n. get_or run n (pos 0)) (let e : place - start ≡ x = omega (arith, level) in e) ∙ ap (λ (l : List ℤ). get_or l x (pos 0)) (sym here))
     ]
 
--- rows of a picture of these sides
+-- rows that pass the test of sides have these sides
 pub have : (w h : ℕ) (rs : List (List ℤ)) → have_sides (w, h) rs ≡ true → (length rs ≡ h) × ((y : ℕ) → y < h → length (get_or rs y []) ≡ w)
 have w h rs e =
     let p = and_parts (length rs == h) (list_all (λ row. length row == w) rs) e in
@@ -91,17 +93,18 @@ in_place number rows cfg vw vh before e f x y hx hy =
     let wide : length (get_or (numbers_of number rows) y []) ≡ vw = sides.1 y hy in
     f x y (omega (arith, count, sides.0, hy)) (omega (arith, wide, hx))
 
--- and they fit
+-- rows that lie in a plane fit the list of its samples
 pub down_fits : {T : Type 0} (number : T → ℤ) (rows : List (Vec T Global)) (top s w h height total : ℕ) → have_sides (w, h) (numbers_of number rows) ≡ true → top + h ≤ height → total ≡ s * height → (top + length rows) * s ≤ total
 down_fits number rows top s w h height total e fits stored =
     let sides = have w h (numbers_of number rows) e in
     let count : length (numbers_of number rows) ≡ length rows = length-map rows (λ (v : Vec _ Global). map number v.items) in
     omega (arith, stored, mul-le (top + length rows) s height s (omega (arith, count, sides.0, fits)) (omega arith))
 
+-- A run inside a row ends inside the list.
 pub run_fits : (s left top i n len total : ℕ) → i < n → left + len ≤ s → (top + n) * s ≤ total → top * s + i * s + left + len ≤ total
 run_fits s left top i n len total below fits stored = omega (arith, fits, stored, mul-le (top + i + 1) s (top + n) s (omega (arith, below)) (omega arith))
 
--- a picture that is in place is spread
+-- a picture that is in place and padded is spread over all stored samples
 pub spread : (cfg : PlaneConfig) (w h : ℕ) (rs : List (List ℤ)) (before after : List ℤ) → length before ≡ cfg.stride * cfg.alloc_height → CanPad cfg w h
     → IsPadded cfg (visible w cfg.xdec) (visible h cfg.ydec) before after
     → ((x y : ℕ) → x < visible w cfg.xdec → y < visible h cfg.ydec → at before cfg.stride (cfg.xorigin + x) (cfg.yorigin + y) ≡ picture_sample rs x y)
@@ -119,12 +122,13 @@ spread cfg w h rs before after count can padded written =
         let row : nearest cfg.yorigin vh y ≡ cfg.yorigin + v = omega arith in
         (λ i. at before cfg.stride (column i) (row i)) ∙ f u v (omega arith) (omega arith)
 
--- a plane that holds rows, by its layout
+-- A plane that holds rows, in the layout of its frame.
 module _ {T : Type 0} (number : T → ℤ) (w h : ℕ) (blank p : Plane T) (layout : PlaneConfig) (lent rows : List (Vec T Global)) where
+  -- A plane that holds the rows it was lent holds them under the frame's layout.
   plane_held : blank.cfg ≡ layout → lent ≡ rows → view_plane number p ≡ picture_plane blank.cfg w h (numbers_of number lent) → view_plane number p ≡ picture_plane layout w h (numbers_of number rows)
   plane_held same read filled = filled ∙ (λ i. picture_plane (same i) w h (numbers_of number (read i)))
 
--- a frame whose planes do
+-- a frame whose planes hold the rows of a picture holds the picture
 pub held : {T : Type 0} (number : T → ℤ) (f : FrameFormat) (blank : Frame T) → IsBlank number f.width f.height f.sampling blank → (y u v : Plane T) (ys us vs : List (Vec T Global)) (source : Three (Vec (Vec T Global) Global))
     → ys ≡ source.y.items → us ≡ source.u.items → vs ≡ source.v.items
     → view_plane number y ≡ picture_plane blank.planes.y.cfg f.width f.height (numbers_of number ys) → view_plane number u ≡ picture_plane blank.planes.u.cfg f.width f.height (numbers_of number us) → view_plane number v ≡ picture_plane blank.planes.v.cfg f.width f.height (numbers_of number vs)

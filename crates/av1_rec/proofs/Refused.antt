@@ -23,13 +23,13 @@ pub no_value : {A E : Type 0} (r : Result A E) (P : A → Type 0) → IsErr r �
 no_value (Ok x) P h = absurd (let f : false ≡ true = h in cc)
 no_value (Err e) P h = tt
 
--- a status and its line
+-- a fact about a status and its line holds of a result that has them
 pub value_is : {E : Type 0} (r : Result (Status × Vec ℕ Global) E) (status : Status) (answer : Answer) → IfOk r (λ x. x.0 ≡ status) → IfOk r (λ x. x.1.items ≡ refusal_line status)
     → answer ≡ (status, refusal_line status) → IfOk r (λ x. (x.0, x.1.items) ≡ answer)
 value_is (Ok x) status answer a b e = (λ i. (a i, b i)) ∙ sym e
 value_is (Err e) status answer a b h = tt
 
--- a status of a text
+-- a fact about the status of a text holds of a result that has this status
 pub kind_is : {E : Type 0} (r : Result (Status × Vec ℕ Global) E) (status : Status) → IfOk r (λ x. x.0 ≡ status) → IsOfText status → IfOk r (λ x. IsOfText x.0)
 kind_is (Ok x) status a k = subst IsOfText (sym a) k
 kind_is (Err e) status a k = tt

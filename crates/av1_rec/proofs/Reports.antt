@@ -1,4 +1,4 @@
--- What is reported of a coded frame, by what coding it left.
+-- The report of a coded frame, by the outcome that coding left.
 use Rattle.std.proofs.Common.{◌≡◌, ℕ, List, Result, Ok, Err, IsErr, IsErrAnd, IfErr, ltb, sym, subst, ap, ◌∙◌}
 use Rattle.av1_frame.specs.declared.group_error.GroupError.{GroupError}
 use Rattle.av1_block.specs.declared.block.Block.{Block}
@@ -11,7 +11,7 @@ use Rattle.av1_rec.specs.Group.{said_job, planes_of, shown, reported}
 use Rattle.av1_rec.specs.Recorded.{recorded_meaning}
 use Rattle.av1_rec.specs.Text.{Said}
 
--- what holds an outcome shows it
+-- a state that holds an outcome shows the outcome
 pub holds_shown : (j : Job) (group : List ℕ) (s : State) (blocks : List Block) → Holds j (outcome j) group s blocks → shown j.parameters s group ≡ reported j
 holds_shown j group s blocks h = λ i. record {
   levels = (h.state i).deblock.levels;
@@ -32,7 +32,7 @@ job_is s p first blocks same begun fresh =
     let table : blocks ≡ start_blocks (frame_parameters s.header s.tiling) = fresh ∙ ap (λ (q : Parameters). start_blocks q) same in
     λ i. job_of (recorded_meaning s.tiling s.tiles) (same i) (state i) (table i)
 
--- an error that is handed on
+-- a fact about an error holds where the error is handed on
 pub handed_on : {A : Type 0} (r : Result A GroupError) (given : GroupError) (P : GroupError → Type 0) → IsErr r × IsErrAnd r (λ e. e ≡ given) → P given → IfErr r P
 handed_on (Ok x) given P h p = tt
 handed_on (Err e) given P h p = subst P (sym h.1) p

@@ -10,17 +10,17 @@ use Rattle.av1_rec.specs.declared.text.extent.TileShape.{TileShape}
 use Rattle.av1_rec.specs.declared.text.header.FrameFormat.{FrameFormat}
 use Rattle.av1_rec.specs.Text.{tile_shape, no_samples, chroma_of}
 
--- these samples of a rectangle, decimated
+-- the sides of a rectangle in a plane with these decimations
 abbrev decimated : TileRect → ℕ × ℕ → Extent
 decimated luma d = record { width = luma.width / 2 ^ d.0; height = luma.height / 2 ^ d.1 }
 
--- chroma's samples are luma's, decimated
+-- the sides of a tile in chroma are its sides in luma, decimated
 chroma_is : (t : TilingInfo) (n : ℕ) (luma : TileRect) (d : Option (ℕ × ℕ)) (chroma : Extent) → luma ≡ tile_luma t n
     → (d ≡ None → chroma ≡ no_samples) → IfSome d (λ e. chroma ≡ decimated luma e) → chroma ≡ chroma_of t n d
 chroma_is t n luma None chroma l none some = none refl
 chroma_is t n luma (Some e) chroma l none some = some ∙ ap (λ (r : TileRect). decimated r e) l
 
--- the shape of these rectangles
+-- the sides of a tile's rectangles are the tile's shape
 pub shape_is : (f : FrameFormat) (t : TilingInfo) (n : ℕ) (luma blocks : TileRect) (chroma : Extent) → luma ≡ tile_luma t n → blocks ≡ tile_blocks t n
     → (decimation f.sampling ≡ None → chroma ≡ no_samples) → IfSome (decimation f.sampling) (λ e. chroma ≡ decimated luma e)
     → ◌≡◌ {A = TileShape} (record {

@@ -6,17 +6,17 @@ use Rattle.av1_rec.specs.Summary.{row_sum, rows_sum, sum_line, sum_lines}
 use Rattle.av1_plane.specs.Layout.{rows}
 use Rattle.av1_rec.proofs.RegionRows.{taken_count, rows_more, map_take, map_drop}
 
--- one sample more
+-- one sample more adds its number to the sum of a row
 pub row_push : (vs : List ℤ) (v : ℤ) → row_sum (vs ++ v ∷ []) ≡ row_sum vs + natural v
 row_push [] v = omega arith
 row_push (x ∷ vs) v = let e = row_push vs v in omega (arith, e)
 
--- one row more
+-- one row more adds its sum
 pub rows_push : (rs : List (List ℤ)) (r : List ℤ) → rows_sum (rs ++ r ∷ []) ≡ rows_sum rs + row_sum r
 rows_push [] r = omega arith
 rows_push (x ∷ rs) r = let e = rows_push rs r in omega (arith, e)
 
--- the sum of the samples up to the next one
+-- one sample more adds its number to the sum of a row
 pub sample_more : {X : Type 0} (number : X → ℤ) (row : List X) (i n : ℕ) (x : X) → i < length row → x ≡ get_or row i x → n ≡ natural (number x)
     → row_sum (map number (take i row)) + n ≡ row_sum (map number (take (i + 1) row))
 sample_more number row i n x lt e is =
@@ -24,7 +24,7 @@ sample_more number row i n x lt e is =
     ap (map number) (take_more row i x lt ∙ ap (λ (y : _). take i row ++ y ∷ []) (sym e)) ∙ map_push number (take i row) x in
     ap (λ m. row_sum (map number (take i row)) + m) is ∙ sym (row_push (map number (take i row)) (number x)) ∙ ap row_sum (sym taken)
 
--- the lines of one plane more
+-- one plane more adds its line at the end
 sums_snoc : (p : ℕ) (planes : List (List (List ℤ))) (last : List (List ℤ)) → sum_lines p (planes ++ last ∷ []) ≡ sum_lines p planes ++ sum_line (p + length planes) last
 unfolding sum_lines
 sums_snoc p [] last = rw (append-nil (sum_line p last)) (ap (λ (n : ℕ). sum_line n last) (let k : p ≡ p + 0 = omega arith in k))
@@ -34,7 +34,7 @@ sums_snoc p (rows ∷ planes) last =
     ∙ ap (λ (n : ℕ). sum_line p rows ++ (sum_lines (p + 1) planes ++ sum_line n last)) k
     ∙ sym (append_assoc (sum_line p rows) (sum_lines (p + 1) planes) (sum_line (p + suc (length planes)) last))
 
--- one plane more was summed up
+-- one plane more is summed up
 pub sums_more : {X : Type 0} (rows_of : X → List (List ℤ)) (planes : List X) (last : X) (bs : List ℕ) (p : ℕ) → p < length planes → last ≡ get_or planes p last
     → (bs ++ sum_lines 0 (map rows_of (take p planes))) ++ sum_line p (rows_of last) ≡ bs ++ sum_lines 0 (map rows_of (take (p + 1) planes))
 sums_more rows_of planes last bs p lt e =
@@ -47,16 +47,17 @@ sums_more rows_of planes last bs p lt e =
     ∙ ap (λ (l : List ℕ). bs ++ l) (sym (sums_snoc 0 before (rows_of last)))
     ∙ ap (λ (l : List (List (List ℤ))). bs ++ sum_lines 0 l) (sym taken)
 
--- no plane was summed up yet
+-- no plane is summed up yet
 pub sums_start : (bs : List ℕ) → bs ≡ bs ++ sum_lines 0 []
 unfolding sum_lines
 sums_start bs = sym (append-nil bs)
 
--- what holds of one entry or of three holds of all of a list of so many
+-- what holds of one element holds of the list of this element
 pub all_one : {A : Type 0} (P : A → Type 0) (x : A) → P x → All P (x ∷ [])
 all_one P x p zero d l = p
 all_one P x p (suc k) d l = absurd (omega (arith, l))
 
+-- What holds of three elements holds of the list of them.
 pub all_three : {A : Type 0} (P : A → Type 0) (x y z : A) → P x → P y → P z → All P (x ∷ y ∷ z ∷ [])
 all_three P x y z p q r zero d l = p
 all_three P x y z p q r (suc zero) d l = q
@@ -65,12 +66,12 @@ all_three P x y z p q r (suc (suc (suc k))) d l = absurd (omega (arith, l))
 
 pub ruleset small_planes = (all_one, all_three)
 
--- no row was summed up yet
+-- no row is summed up yet
 pub rows_none : {X : Type 0} (number : X → ℤ) (step width : ℕ) (samples : List X) → 0 ≡ rows_sum (rows step width 0 (map number samples))
 unfolding rows
 rows_none number step width samples = refl
 
--- one row more was summed up
+-- one row more of a region is summed up
 pub row_more : {X : Type 0} (number : X → ℤ) (step width y sum : ℕ) (samples row : List X) → row ≡ take width (drop (y * step) samples) → sum ≡ rows_sum (rows step width y (map number samples))
     → sum + row_sum (map number row) ≡ rows_sum (rows step width (y + 1) (map number samples))
 row_more number step width y sum samples row is so_far =

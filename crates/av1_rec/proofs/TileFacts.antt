@@ -21,7 +21,7 @@ use Rattle.av1_rec.specs.declared.text.header.Header.{Header}
 use Rattle.av1_rec.specs.Text.{tiling}
 use Rattle.av1_rec.specs.Tiles.{IsTileNumber, AreTiles}
 
--- a tiling that was found is the grid
+-- the tiling that a header has is the grid of its frame
 pub grid_found : (h : Header) (t : TilingInfo) → tiling h ≡ Ok t
     → grid 6 h.format.width h.format.height h.target.num h.target.den h.target.cols_log2 h.target.rows_log2 (is_422 h.format.sampling) ≡ Some t
 unfolding tiling
@@ -31,7 +31,7 @@ grid_found h t e = some_of (grid 6 h.format.width h.format.height h.target.num h
     some_of (Some x) e = cc
     some_of None e = absurd cc
 
--- each tile of a grid in superblocks of 64
+-- each tile of a grid begins inside the frame, in superblocks of 64 samples
 tile_of : (t : TilingInfo) (n : ℕ) → IsTiling t → t.sb_size_log2 ≡ 6 → n < t.cols * t.rows → IsTileNumber t n
 tile_of t n h side inside =
     let lies = tile_luma-inside t n h inside in
@@ -52,7 +52,7 @@ tile_of t n h side inside =
       tile_high = tile_high-pos t h;
     }
 
--- the tiles of a header's grid
+-- the tiles of a header's grid begin inside the frame
 pub header_tiles : (h : Header) (t : TilingInfo) → tiling h ≡ Ok t → AreTiles t
 header_tiles h t e =
     let found = grid_found h t e in
@@ -69,6 +69,7 @@ pub luma_rect : (t : TilingInfo) (n : ℕ) → t.sb_size_log2 ≡ 6 → tile_lum
 }
 luma_rect t n e = rw e refl
 
+-- The samples of a tile's view, with superblocks of 64 samples.
 pub samples_rect : (t : TilingInfo) (n : ℕ) → t.sb_size_log2 ≡ 6 → tile_samples t n ≡ record {
   x = (tile_luma t n).x;
   y = (tile_luma t n).y;
@@ -77,6 +78,7 @@ pub samples_rect : (t : TilingInfo) (n : ℕ) → t.sb_size_log2 ≡ 6 → tile_
 }
 samples_rect t n e = rw e refl
 
+-- The blocks of a tile, with superblocks of 64 samples.
 pub blocks_rect : (t : TilingInfo) (n : ℕ) → t.sb_size_log2 ≡ 6 → tile_blocks t n ≡ record {
   x = (tile_superblock t n).0 * 16;
   y = (tile_superblock t n).1 * 16;
@@ -109,12 +111,13 @@ log_most false true c = lit≤ tt
 log_most false false true = lit≤ tt
 log_most false false false = lit≤ tt
 
+-- A unit has at most 2^8 superblocks a side.
 shifts_most : (p : Parameters) (unit : ℕ) (d : ℕ × ℕ) → IsUnitLayout (unit_layout p unit d)
 shifts_most p unit d =
     let most : unit_log2 unit ≤ 8 = log_most (eqb unit 256) (eqb unit 128) (eqb unit 64) in
     record { h_shift = omega (arith, most); v_shift = omega (arith, most) }
 
--- so are the layouts of a frame's units
+-- the units of a frame have at most 2^8 superblocks a side, in each plane
 pub layout_shifts : (p : Parameters) (layouts : Three RestorationPlaneConfig) → layouts ≡ unit_layouts p → IsUnitLayout layouts.y × (IsUnitLayout layouts.u × IsUnitLayout layouts.v)
 layout_shifts p layouts e =
     let sizes = unit_sizes p in

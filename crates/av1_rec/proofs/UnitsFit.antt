@@ -6,7 +6,7 @@ use Rattle.av1_block.specs.declared.restoration_unit.RestorationUnit.{Restoratio
 use Rattle.av1_tiling.specs.Views.{TileState}
 use Rattle.av1_rec.specs.Recorded.{units_fit}
 
--- so it is in each plane
+-- each plane has as many recorded units as the view has
 pub fitting : (t : TileState) (units : Three (List RestorationUnit)) → units_fit t units ≡ true
     → (length units.y ≡ length t.units.y.entries) × ((length units.u ≡ length t.units.u.entries) × (length units.v ≡ length t.units.v.entries))
 fitting t units e =

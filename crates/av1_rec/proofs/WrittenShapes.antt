@@ -16,25 +16,27 @@ length-refilled old new =
 
 -- a tile whose planes were written
 module _ (before after : TileState) (rows : Three (List (List ℤ))) (same : after ≡ with_planes before rows) where
+  -- A tile's state with the recorded rows of luma.
   abbrev one : TileState
   one = with_rows before 0 rows.y
 
+  -- A tile's state with the recorded rows of luma and U.
   abbrev two : TileState
   two = with_rows one 1 rows.u
 
-  -- its luma is as long as before
+  -- the luma part is as long after writing as before
   pub written_y : length after.rec.y.entries ≡ length before.rec.y.entries
   written_y =
       ap (λ (t : TileState). length t.rec.y.entries) same
       ∙ length-refilled before.rec.y.entries (with_cut before.rec.y.entries before.rec.y.rect.width 0 0 (sides_inside before 0).0 (sides_inside before 0).1 (joined rows.y))
 
-  -- and so is U
+  -- the U part is as long after writing as before
   pub written_u : length after.rec.u.entries ≡ length before.rec.u.entries
   written_u =
       ap (λ (t : TileState). length t.rec.u.entries) same
       ∙ length-refilled before.rec.u.entries (with_cut before.rec.u.entries before.rec.u.rect.width 0 0 (sides_inside one 1).0 (sides_inside one 1).1 (joined rows.u))
 
-  -- and so is V
+  -- the V part is as long after writing as before
   pub written_v : length after.rec.v.entries ≡ length before.rec.v.entries
   written_v =
       ap (λ (t : TileState). length t.rec.v.entries) same

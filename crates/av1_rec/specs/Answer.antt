@@ -16,38 +16,38 @@ use Rattle.av1_rec.specs.Generated.{generated, generated_header}
 use Rattle.av1_rec.specs.Text.{tiling, tiled_header, text_of, line_number}
 use Rattle.av1_rec.specs.Told.{Prefixed}
 
--- where a text is wrong or has no tiling
+-- the answer where a text is wrong or has no tiling
 abbrev pub fault_answer : List ℕ → Fault → Answer
 fault_answer text (faults.Wrong left) = refused (status.Syntax (line_number text left))
 fault_answer text faults.NoTiling = refused status.NoTiling
 
--- of a text that isn't too long, for the report of its frame
+-- the answer to a text that isn't too long, with the report of its frame
 unfoldable pub text_answer : List ℕ → Answer
 text_answer text = elim (text_of text) [ Ok said ↦ group_answer forms.Report said | Err fault ↦ fault_answer text fault ]
 
--- for its tile grid: only the header is looked at
+-- the answer to a text with its tile grid, for which only the header is looked at
 unfoldable pub grid_answer : List ℕ → Answer
 grid_answer text = elim (tiled_header text) [ Ok h ↦ (status.Done, grid_text h.1) | Err fault ↦ fault_answer text fault ]
 
--- of a number, for the summary of the frame that is made from it
+-- the answer to a number, with the summary of the frame that is made from it
 unfoldable pub generated_answer : ℕ → Answer
 generated_answer seed = elim (tiling generated_header) [
   | Ok t ↦ group_answer forms.Summary (generated generated_header t seed)
   | Err fault ↦ fault_answer [] fault
 ]
 
--- for what a command asks for; no number of workers changes it
+-- the answer to a command and a text; no number of workers changes it
 abbrev pub answer_of : Command → List ℕ → Answer
 answer_of (Group workers) text = text_answer text
 answer_of Tiles text = grid_answer text
 answer_of (Gen seed workers) text = generated_answer seed
 
--- of all that a source gave
+-- the answer to a command and all that a source gave
 unfoldable pub input_answer : Command → List ℕ → Answer
 input_answer command text = if nat_lt (2 ^ 28) (length text) then refused status.TooLong else answer_of command text
 
--- what is asked for of a source with these bytes left; nothing is known where the source doesn't tell them and a text
--- is asked for
+-- the answer to the words and to a source with these bytes left; nothing is known where a text is
+-- asked for and the source doesn't tell its bytes
 unfoldable pub asked : Option Command → Option (List ℕ) → Option Answer
 asked None left = Some (refused status.Usage)
 asked (Some command) left =
@@ -65,14 +65,14 @@ IsOfText s = ⊥
 abbrev pub read_refusal : List ℕ
 read_refusal = refusal_line status.ReadFault
 
--- no fault was told, and memory was there
+-- a status other than a fault of the streams or a want of memory
 abbrev pub IsFaultless : Status → Type 0
 IsFaultless status.OutOfMemory = ⊥
 IsFaultless status.ReadFault = ⊥
 IsFaultless status.WriteFault = ⊥
 IsFaultless s = Unit {0}
 
--- a status and what is printed are those that are known
+-- the status and what is printed are those of the known answer
 abbrev pub IsKnown : Option Answer → Status → List ℕ → Type 0
 IsKnown known s printed = IfSome known (λ a. a ≡ (s, printed))
 
@@ -93,13 +93,13 @@ Finished before printed rose old new after =
     ⊎ (((after ≡ status.WriteFault) × rose × Prefixed old new printed)
     ⊎ ((after ≡ status.OutOfMemory) × Prefixed old new printed))
 
--- a part of what is known to be printed was, or, the source having failed, of that refusal's line
+-- a part of the known text was written, or, after a failed read, a part of that refusal's line
 abbrev pub PartWritten : Option Command → Option Answer → Type 0 → Option (List ℕ) → Option (List ℕ) → Type 0
 PartWritten command known read_rose old new =
     IfSome known (λ a. Prefixed old new a.1)
     ⊎ ((asks_for_text command ≡ true) × read_rose × Prefixed old new read_refusal)
 
--- what is known was answered and printed
+-- the status is the known one, and the known text was written
 abbrev pub KnownWritten : Option Answer → Option (List ℕ) → Option (List ℕ) → Status → Type 0
 KnownWritten known old new s = IfSome known (λ a. (s ≡ a.0) × Appends old new a.1)
 

@@ -13,7 +13,7 @@ abbrev pub block_after : Block → List BlockLine → ℕ → ℕ → Block
 block_after before [] x y = before
 block_after before (line ∷ lines) x y = block_after (if holds line x y then line.block else before) lines x y
 
--- f of 0, 1 and so on
+-- f 0, f 1 and so on, n values
 abbrev pub first_values : {A : Type 0} → (ℕ → A) → ℕ → List A
 first_values f zero = []
 first_values f (suc n) = first_values f n ++ f n ∷ []

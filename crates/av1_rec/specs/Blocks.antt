@@ -14,20 +14,23 @@ use Rattle.av1_block.specs.declared.ref_type.RefType.TheVariants.{INTRA_FRAME, L
 use Rattle.av1_rec.specs.declared.text.block_line.BlockLine.{BlockLine}
 use Rattle.av1_rec.specs.Fields.{◌>>=◌, tag, number_in, field, delta, flag, choice}
 
--- the sizes, transforms, modes and references by their numbers
+-- the block sizes in the order of their numbers
 unfoldable pub block_sizes : List BlockSize
 block_sizes = BLOCK_4X4 ∷ BLOCK_4X8 ∷ BLOCK_8X4 ∷ BLOCK_8X8 ∷ BLOCK_8X16 ∷ BLOCK_16X8 ∷ BLOCK_16X16 ∷ BLOCK_16X32 ∷ BLOCK_32X16 ∷ BLOCK_32X32 ∷ BLOCK_32X64 ∷ BLOCK_64X32 ∷ BLOCK_64X64 ∷ BLOCK_64X128 ∷ BLOCK_128X64 ∷ BLOCK_128X128 ∷ BLOCK_4X16 ∷ BLOCK_16X4 ∷ BLOCK_8X32 ∷ BLOCK_32X8 ∷ BLOCK_16X64 ∷ BLOCK_64X16 ∷ []
 
+-- the transform sizes in the order of their numbers
 unfoldable pub tx_sizes : List TxSize
 tx_sizes = TX_4X4 ∷ TX_8X8 ∷ TX_16X16 ∷ TX_32X32 ∷ TX_64X64 ∷ TX_4X8 ∷ TX_8X4 ∷ TX_8X16 ∷ TX_16X8 ∷ TX_16X32 ∷ TX_32X16 ∷ TX_32X64 ∷ TX_64X32 ∷ TX_4X16 ∷ TX_16X4 ∷ TX_8X32 ∷ TX_32X8 ∷ TX_16X64 ∷ TX_64X16 ∷ []
 
+-- the prediction modes in the order of their numbers
 unfoldable pub modes : List PredictionMode
 modes = DC_PRED ∷ V_PRED ∷ H_PRED ∷ D45_PRED ∷ D135_PRED ∷ D113_PRED ∷ D157_PRED ∷ D203_PRED ∷ D67_PRED ∷ SMOOTH_PRED ∷ SMOOTH_V_PRED ∷ SMOOTH_H_PRED ∷ PAETH_PRED ∷ UV_CFL_PRED ∷ NEARESTMV ∷ NEAR0MV ∷ NEAR1MV ∷ NEAR2MV ∷ GLOBALMV ∷ NEWMV ∷ NEAREST_NEARESTMV ∷ NEAR_NEAR0MV ∷ NEAR_NEAR1MV ∷ NEAR_NEAR2MV ∷ NEAREST_NEWMV ∷ NEW_NEARESTMV ∷ NEAR_NEW0MV ∷ NEAR_NEW1MV ∷ NEAR_NEW2MV ∷ NEW_NEAR0MV ∷ NEW_NEAR1MV ∷ NEW_NEAR2MV ∷ GLOBAL_GLOBALMV ∷ NEW_NEWMV ∷ []
 
+-- the reference frames in the order of their numbers, with none at the end
 unfoldable pub references : List RefType
 references = INTRA_FRAME ∷ LAST_FRAME ∷ LAST2_FRAME ∷ LAST3_FRAME ∷ GOLDEN_FRAME ∷ BWDREF_FRAME ∷ ALTREF2_FRAME ∷ ALTREF_FRAME ∷ NONE_FRAME ∷ []
 
--- `X Y COLS ROWS`: a rectangle of at least one block in a tile of so many columns and rows
+-- `X Y COLS ROWS`: a rectangle of at least one block in a tile of `cols` columns and `rows` rows
 unfoldable pub rectangle : ℕ → ℕ → List ℕ → Option ((ℕ × ℕ × ℕ × ℕ) × List ℕ)
 rectangle cols rows text = do
   x ← number_in 0 (cols - 1) text
@@ -36,7 +39,7 @@ rectangle cols rows text = do
   h ← field 1 (rows - y.0) w.1
   Some ((x.0, y.0, w.0, h.0), h.1)
 
--- `BSIZE TX SKIP MODE REF0 REF1`, in a block whose other fields are 0
+-- `BSIZE TX SKIP MODE REF0 REF1`, as a block whose other fields are 0
 unfoldable pub kind : List ℕ → Option (Block × List ℕ)
 kind text = do
   bsize ← choice block_sizes text
@@ -62,7 +65,7 @@ kind text = do
     second.1,
   )
 
--- `N4W N4H CDEF SEG`
+-- `N4W N4H CDEF SEG`: a block's sides, CDEF index and segment
 unfoldable pub sides : List ℕ → Option ((ℕ × ℕ × ℕ × ℕ) × List ℕ)
 sides text = do
   w ← field 0 255 text
@@ -71,7 +74,7 @@ sides text = do
   segment ← field 0 255 cdef.1
   Some ((w.0, h.0, cdef.0, segment.0), segment.1)
 
--- `D0 D1 D2 D3`
+-- `D0 D1 D2 D3`: a block's deltas of the deblocking levels
 unfoldable pub deltas : List ℕ → Option (List ℤ × List ℕ)
 deltas text = do
   a ← delta text
@@ -80,7 +83,7 @@ deltas text = do
   d ← delta c.1
   Some (a.0 ∷ b.0 ∷ c.0 ∷ d.0 ∷ [], d.1)
 
--- `X Y COLS ROWS BSIZE TX SKIP MODE REF0 REF1 N4W N4H CDEF SEG D0 D1 D2 D3`
+-- `X Y COLS ROWS BSIZE TX SKIP MODE REF0 REF1 N4W N4H CDEF SEG D0 D1 D2 D3`, and a line feed
 unfoldable pub block_line : ℕ → ℕ → List ℕ → Option (BlockLine × List ℕ)
 block_line cols rows text = do
   r ← rectangle cols rows text

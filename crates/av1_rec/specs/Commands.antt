@@ -4,7 +4,7 @@ use Rattle.av1_rec.specs.declared.program.commands.Command.{Command}
 use Rattle.av1_rec.specs.declared.program.commands.Command.TheVariants.{Group, Tiles, Gen}
 use Rattle.av1_rec.specs.Fields.{◌>>=◌, tag, number_in}
 
--- the bytes of a word are these
+-- whether a word is the given bytes
 abbrev pub is_word : List ℕ → List ℕ → Bool
 is_word word bytes = elim (tag word bytes) [ Some rest ↦ length rest == 0 | None ↦ false ]
 
@@ -14,24 +14,24 @@ word_number bytes = do
   n ← number_in 0 4294967295 bytes
   if length n.1 == 0 then Some n.0 else None
 
--- `tiles`
+-- the command `tiles`, which has no further word
 unfoldable pub tiles_command : List ℕ → Option Command
 tiles_command name = if is_word (codes "tiles") name then Some Tiles else None
 
--- `group N`
+-- the command `group N`
 unfoldable pub group_command : List ℕ → List ℕ → Option Command
 group_command name n = if is_word (codes "group") name then (do
   workers ← word_number n
   Some (Group workers)) else None
 
--- `gen K N`
+-- the command `gen K N`
 unfoldable pub gen_command : List ℕ → List ℕ → List ℕ → Option Command
 gen_command name k n = if is_word (codes "gen") name then (do
   seed ← word_number k
   workers ← word_number n
   Some (Gen seed workers)) else None
 
--- what the words ask for
+-- the command that the words spell, if any
 unfoldable pub command_of : List (List ℕ) → Option Command
 command_of [] = None
 command_of (name ∷ []) = tiles_command name

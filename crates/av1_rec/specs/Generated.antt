@@ -1,5 +1,5 @@
--- A frame made from a number alone: its source has slow slopes and noise, each sample is coded as that at the corner of
--- its 8x8 block, and blocks and restoration units change from place to place.
+-- A frame made from a number alone: its source has slow slopes and noise, each sample is coded as the
+-- one at the corner of its 8x8 block, and blocks and restoration units change from place to place.
 use Rattle.std.specs.Prelude.{ℕ, zero, suc, ℤ, pos, neg_ℤ, ◌+◌, ◌*◌, ◌/◌, ◌%◌, ◌^◌, List, [], ◌∷◌, ◌==◌, Bool, true, false, if◌then◌else◌, Option, Some, None, replicate}
 use Rattle.av1_plane.specs.declared.sampling.ChromaSampling.{ChromaSampling}
 use Rattle.av1_plane.specs.declared.sampling.ChromaSampling.TheVariants.{Cs420}
@@ -27,10 +27,11 @@ use Rattle.av1_rec.specs.Picture.{picture_sample}
 use Rattle.av1_rec.specs.Recorded.{Recorded, Coded}
 use Rattle.av1_rec.specs.Text.{Said, no_samples, luma_picture, chroma_picture}
 
--- the state of the draws after one more, and after so many more
+-- the state of the draws after one more draw
 abbrev pub next_state : ℕ → ℕ
 next_state state = (state * 1664525 + 1013904223) % 2 ^ 32
 
+-- the state of the draws after n more draws
 unfoldable pub state_after : ℕ → ℕ → ℕ
 state_after state zero = state
 state_after state (suc n) = next_state (state_after state n)
@@ -39,17 +40,17 @@ state_after state (suc n) = next_state (state_after state n)
 abbrev pub source_sample : (p row column state : ℕ) → ℕ
 source_sample p row column state = 16 + (column / 8 + row / 8 + 64 * p) % 192 + state / 2 ^ 24 % 4
 
--- a row, one draw for each sample
+-- a row of plane p of the source, with one draw for each sample
 unfoldable pub source_row : (p row width state : ℕ) → List ℤ
 source_row p row width state =
     first_values (λ column. pos (source_sample p row column (state_after state (column + 1)))) width
 
--- the rows of a plane, one behind another
+-- the rows of plane p of the source, one behind another
 unfoldable pub source_plane : (p state : ℕ) → Extent → List (List ℤ)
 source_plane p state sides =
     first_values (λ row. source_row p row sides.width (state_after state (row * sides.width))) sides.height
 
--- the planes, one behind another
+-- the planes of the source, one behind another
 unfoldable pub source : FrameFormat → ℕ → Three (List (List ℤ))
 source f seed =
     let luma = luma_picture f in
@@ -67,11 +68,11 @@ unfoldable pub coded_row : List (List ℤ) → TileRect → ℕ → List ℤ
 coded_row rows rect row =
     first_values (λ column. picture_sample rows ((rect.x + column) / 8 * 8) ((rect.y + row) / 8 * 8)) rect.width
 
--- the rows of a rectangle
+-- the rows of a rectangle, coded as the source's samples at the corners of 8x8 blocks
 unfoldable pub coded_rows : List (List ℤ) → TileRect → List (List ℤ)
 coded_rows rows rect = first_values (λ row. coded_row rows rect row) rect.height
 
--- a tile's rectangle in a chroma plane, by that in luma
+-- a tile's rectangle in a chroma plane, by its rectangle in luma
 abbrev pub chroma_rect : Option (ℕ × ℕ) → TileRect → TileRect
 chroma_rect None luma = record { x = 0; y = 0; width = 0; height = 0 }
 chroma_rect (Some (xdec, ydec)) luma = record {
@@ -97,7 +98,7 @@ small_block cdef_index = record default_block {
   cdef_index = cdef_index;
 }
 
--- the CDEF index at a place of the block table goes by the superblock's column and row
+-- the block at a column and row: small, with a CDEF index by the superblock's column and row
 abbrev pub generated_block : (column row : ℕ) → Block
 generated_block column row = small_block ((column / 16 + row / 16) % 8)
 
@@ -106,10 +107,11 @@ unfoldable pub generated_blocks : TileRect → List Block
 generated_blocks rect =
     first_values (λ k. generated_block (rect.x + k % rect.width) (rect.y + k / rect.width)) (rect.width * rect.height)
 
--- the coefficients and the weights in the middle of their ranges
+-- the Wiener coefficients in the middle of their ranges
 abbrev pub middle_taps : List ℤ
 middle_taps = pos 3 ∷ neg_ℤ (pos 7) ∷ pos 15 ∷ []
 
+-- the self-guided weights in the middle of their ranges
 abbrev pub middle_weights : List ℤ
 middle_weights = neg_ℤ (pos 32) ∷ pos 31 ∷ []
 
@@ -120,13 +122,13 @@ generated_unit column row =
     else (if (column + row) % 3 == 1 then record { filter = filters.Wiener (middle_taps ∷ middle_taps ∷ []) }
     else record { filter = filters.Sgrproj (column % 16) middle_weights })
 
--- the units of tile n in a plane whose units are laid out so
+-- the units of tile n in a plane whose units have this layout
 unfoldable pub generated_units : TilingInfo → RestorationPlaneConfig → ℕ → List RestorationUnit
 generated_units t cfg n =
     let rect = tile_units t cfg.sb_h_shift cfg.sb_v_shift cfg.cols cfg.rows n in
     first_values (λ k. generated_unit (rect.x + k % rect.width) (rect.y + k / rect.width)) (rect.width * rect.height)
 
--- those of all planes
+-- the units of tile n in all planes
 abbrev pub coded_unit_lists : TilingInfo → Three RestorationPlaneConfig → ℕ → Three (List RestorationUnit)
 coded_unit_lists t layouts n = record {
   y = generated_units t layouts.y n;
@@ -134,10 +136,11 @@ coded_unit_lists t layouts n = record {
   v = generated_units t layouts.v n;
 }
 
--- how many bytes tile n has, and which
+-- how many bytes tile n has
 abbrev pub byte_count : ℕ → ℕ
 byte_count n = if n == 1 then 1000 else (if n == 2 then 1100 else 900)
 
+-- the bytes of tile n
 unfoldable pub coded_bytes : ℕ → List ℕ
 coded_bytes n = first_values (λ i. (n + i) % 256) (byte_count n)
 
@@ -153,7 +156,7 @@ generated h t seed =
     let s = source h.format seed in
     record { header = h; tiling = t; source = s; tiles = first_values (λ n. coded_tile h t s n) (t.cols * t.rows) }
 
--- the strengths of CDEF
+-- the strengths of CDEF in the generated frame
 abbrev pub strengths : List ℕ
 strengths = 0 ∷ 4 ∷ 8 ∷ 12 ∷ 1 ∷ 2 ∷ 3 ∷ 21 ∷ []
 

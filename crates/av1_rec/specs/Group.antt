@@ -19,15 +19,15 @@ use Rattle.av1_rec.specs.Summary.{summary}
 use Rattle.av1_rec.specs.Statuses.{refusal_line}
 use Rattle.av1_rec.specs.Text.{Said}
 
--- a status and what is printed
+-- the status of a run, and what is printed
 abbrev pub Answer : Type 0
 Answer = Status × List ℕ
 
--- a refusal and its line
+-- the answer of a refusal, with its line
 abbrev pub refused : Status → Answer
 refused s = (s, refusal_line s)
 
--- the job of a text's frame: its results are those that the text says
+-- the job of a text's frame, whose results are those in the text
 abbrev pub said_job : Said → Job
 said_job s =
     let p = frame_parameters s.header s.tiling in
@@ -40,7 +40,7 @@ planes_of Cs420 f = f.y ∷ f.u ∷ f.v ∷ []
 planes_of Cs422 f = f.y ∷ f.u ∷ f.v ∷ []
 planes_of Cs444 f = f.y ∷ f.u ∷ f.v ∷ []
 
--- what a state and the bytes of a group show
+-- what is to be reported of a state and of a group's bytes
 abbrev pub shown : Parameters → State → List ℕ → Reported
 shown p s group = record {
   levels = s.deblock.levels;
@@ -69,7 +69,7 @@ abbrev pub reported_text : Form → Reported → List ℕ
 reported_text forms.Report r = report r
 reported_text forms.Summary r = summary r
 
--- the report of the outcome, or its summary, or why the results are refused
+-- the report or the summary of a text's outcome, or why its results are refused
 unfoldable pub group_answer : Form → Said → Answer
 group_answer form s =
     let job = said_job s in

@@ -18,7 +18,7 @@ use Rattle.av1_rec.specs.Fields.{◌>>=◌, option_bind, tag, field, delta, flag
 abbrev pub sampling_of : ℕ → Option ChromaSampling
 sampling_of n = if n == 400 then Some Cs400 else (if n == 420 then Some Cs420 else (if n == 422 then Some Cs422 else (if n == 444 then Some Cs444 else None)))
 
--- a space, and such a number
+-- a space, and the number of a sampling
 unfoldable pub sampling : List ℕ → Option (ChromaSampling × List ℕ)
 sampling text = do
   n ← field 400 444 text
@@ -31,7 +31,7 @@ depth text = do
   n ← field 8 12 text
   if n.0 == 8 || n.0 == 10 || n.0 == 12 then Some n else None
 
--- `frame W H S D`
+-- `frame W H S D`: the frame's sides, sampling and bit depth
 unfoldable pub frame_line : List ℕ → Option (FrameFormat × List ℕ)
 frame_line text = do
   rest ← tag (codes "frame") text
@@ -42,7 +42,7 @@ frame_line text = do
   rest ← tag (codes "\n") d.1
   Some (record { width = w.0; height = h.0; sampling = s.0; depth = d.0 }, rest)
 
--- `tiling NUM DEN C R`
+-- `tiling NUM DEN C R`: the frame rate, and the wanted logarithms of columns and rows of tiles
 unfoldable pub tiling_line : List ℕ → Option (TilingTarget × List ℕ)
 tiling_line text = do
   rest ← tag (codes "tiling") text
@@ -53,11 +53,11 @@ tiling_line text = do
   rest ← tag (codes "\n") rows.1
   Some (record { num = num.0; den = den.0; cols_log2 = cols.0; rows_log2 = rows.0 }, rest)
 
--- `type key` or `type inter`
+-- `type key` or `type inter`: the frame's type
 unfoldable pub type_line : List ℕ → Option (FrameType × List ℕ)
 type_line text = elim (tag (codes "type key\n") text) [ Some rest ↦ Some (KEY, rest) | None ↦ option_bind (tag (codes "type inter\n") text) (λ rest. Some (INTER, rest)) ]
 
--- `quant AC BASE`
+-- `quant AC BASE`: the quantiser's step and index
 unfoldable pub quant_line : List ℕ → Option (Quantizers × List ℕ)
 quant_line text = do
   rest ← tag (codes "quant") text
@@ -70,7 +70,7 @@ quant_line text = do
 abbrev pub may_be_large : FrameFormat → Bool → Bool → Bool
 may_be_large f restoration large = if restoration && large && (f.width == 1 || f.height == 1) then false else true
 
--- `switches FAST CDEF RESTORATION LARGE NOUPDATE`
+-- `switches FAST CDEF RESTORATION LARGE NOUPDATE`: five switches of the coding, each 0 or 1
 unfoldable pub switches_line : FrameFormat → List ℕ → Option (Switches × List ℕ)
 switches_line f text = do
   rest ← tag (codes "switches") text
@@ -95,7 +95,7 @@ eight_deltas text = do
   h ← delta g.1
   Some (a.0 ∷ b.0 ∷ c.0 ∷ d.0 ∷ e.0 ∷ f.0 ∷ g.0 ∷ h.0 ∷ [], h.1)
 
--- `deltas E R0 to R7 M0 M1 B SHIFT MULTI`
+-- `deltas E R0 to R7 M0 M1 B SHIFT MULTI`: the loop filter deltas
 unfoldable pub deltas_line : List ℕ → Option (DeblockState × List ℕ)
 deltas_line text = do
   rest ← tag (codes "deltas") text
@@ -122,7 +122,7 @@ eight_strengths text = do
   h ← field 0 63 g.1
   Some (a.0 ∷ b.0 ∷ c.0 ∷ d.0 ∷ e.0 ∷ f.0 ∷ g.0 ∷ h.0 ∷ [], h.1)
 
--- `cdef DAMPING Y0 to Y7 U0 to U7`
+-- `cdef DAMPING Y0 to Y7 U0 to U7`: CDEF's damping and strengths
 unfoldable pub cdef_line : List ℕ → Option (CdefStrengths × List ℕ)
 cdef_line text = do
   rest ← tag (codes "cdef") text
@@ -136,7 +136,7 @@ cdef_line text = do
 abbrev pub IsSampleDepth : ℕ → Type 0
 IsSampleDepth d = (d ≡ 8) ⊎ ((d ≡ 10) ⊎ (d ≡ 12))
 
--- the numbers of a right header are within their bounds
+-- the numbers of a header that was read are within their bounds
 pub record IsHeader (h : Header) : Type 0 where
   pub width : (1 ≤ h.format.width) × (h.format.width ≤ 65536)
   pub height : (1 ≤ h.format.height) × (h.format.height ≤ 65536)

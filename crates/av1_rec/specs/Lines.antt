@@ -9,25 +9,28 @@ use Rattle.av1_rec.specs.declared.text.fault.TextError.{TextError}
 use Rattle.av1_rec.specs.declared.text.fault.TextError.TheVariants as errors
 use Rattle.av1_rec.specs.Fields.{tag, below, option_bind}
 
+-- reading one line after another, as `do` writes it
 infixl 10 ◌>>=◌
 abbrev pub ◌>>=◌ : {A B : Type 0} → Result A Fault → (A → Result B Fault) → Result B Fault
 (Ok x) >>= f = f x
 (Err e) >>= f = Err e
 
--- What a function returned, seen by view, is what reading gives, unless memory ran out.
+-- a function's error is the fault that reading gives, unless memory ran out
 abbrev pub Fails : {Y : Type 0} → TextError → Result Y Fault → Type 0
 Fails errors.OutOfMemory read = Unit {0}
 Fails (errors.Fault f) read = read ≡ Err f
 
+-- what a function returned, seen by view, is what reading gives, unless memory ran out
 abbrev pub Gives : {X Y : Type 0} → (X → Y) → Result X TextError → Result Y Fault → Type 0
 Gives view (Ok x) read = read ≡ Ok (view x)
 Gives view (Err e) read = Fails e read
 
--- one line: what is read at the front, or the fault that begins here
+-- what is read at the front of a line, or the fault that begins where `left` bytes are left
 abbrev pub line_or : {A : Type 0} → ℕ → Option A → Result A Fault
 line_or left None = Err (Wrong left)
 line_or left (Some x) = Ok x
 
+-- one line of a text, or the fault that begins at it
 abbrev pub text_line : {A : Type 0} → (List ℕ → Option A) → List ℕ → Result A Fault
 text_line read text = line_or (length text) (read text)
 
@@ -36,7 +39,7 @@ unfoldable pub row : Bool → ℕ → ℕ → List ℕ → Option (List ℤ × L
 row wide limit zero text = option_bind (tag (codes "\n") text) (λ rest. Some ([], rest))
 row wide limit (suc count) text = option_bind (below wide limit text) (λ v. option_bind (row wide limit count v.1) (λ vs. Some (pos v.0 ∷ vs.0, vs.1)))
 
--- so many of what `read` reads, one after another
+-- `count` of what `read` reads, one after another
 unfoldable pub many : {A : Type 0} → (List ℕ → Result (A × List ℕ) Fault) → ℕ → List ℕ → Result (List A × List ℕ) Fault
 many read zero text = Ok ([], text)
 many read (suc count) text = do
@@ -44,7 +47,7 @@ many read (suc count) text = do
   others ← many read count first.1
   Ok (first.0 ∷ others.0, others.1)
 
--- `height` such lines
+-- `height` lines of `width` samples
 abbrev pub text_rows : Bool → ℕ → ℕ → ℕ → List ℕ → Result (List (List ℤ) × List ℕ) Fault
 text_rows wide limit width height text = many (text_line (row wide limit width)) height text
 
@@ -68,7 +71,7 @@ said_planes number p = record {
   v = numbers_of number p.v.items;
 }
 
--- parts that begin with their numbers, from n on
+-- `count` parts that begin with their numbers, from n on
 unfoldable pub numbered : {A : Type 0} → (ℕ → List ℕ → Result (A × List ℕ) Fault) → ℕ → ℕ → List ℕ → Result (List A × List ℕ) Fault
 numbered read n zero text = Ok ([], text)
 numbered read n (suc count) text = do

@@ -7,7 +7,7 @@ use Rattle.av1_tiling.specs.Frames.{Parameters}
 use Rattle.av1_tiling.specs.References.{no_references}
 use Rattle.av1_rec.specs.declared.text.header.Header.{Header}
 
--- the parameters of a header's frame, cut into tiles so; nothing is kept of other frames
+-- the parameters of a header's frame with this tiling; nothing is kept of other frames
 abbrev pub frame_parameters : Header → TilingInfo → Parameters
 frame_parameters h t = record {
   sequence = record {

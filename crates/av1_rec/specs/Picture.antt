@@ -40,7 +40,7 @@ source_frame f s =
       v = picture_plane layout.v f.width f.height s.v;
     }
 
--- the rows have these sides
+-- rows have these sides
 abbrev pub AreRowsOf : Extent → List (List ℤ) → Type 0
 AreRowsOf sides rows = have_sides (sides.width, sides.height) rows ≡ true
 
@@ -50,11 +50,11 @@ pub record HasPictureRows (f : FrameFormat) (s : Three (List (List ℤ))) : Type
   pub u : AreRowsOf (chroma_picture f (decimation f.sampling)) s.u
   pub v : AreRowsOf (chroma_picture f (decimation f.sampling)) s.v
 
--- all numbers of all rows are from 0, below a bound
+-- the numbers of all rows are from 0, below a bound
 abbrev pub AreBelow : ℕ → List (List ℤ) → Type 0
 AreBelow bound rows = All (All (InDepth bound)) rows
 
--- and so in each plane
+-- the numbers of the rows of each plane are from 0, below a bound
 pub record IsPictureBelow (bound : ℕ) (s : Three (List (List ℤ))) : Type 0 where
   pub y : AreBelow bound s.y
   pub u : AreBelow bound s.u

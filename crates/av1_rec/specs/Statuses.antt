@@ -5,6 +5,7 @@ use Rattle.av1_frame.specs.declared.group_error.GroupError.TheVariants as errors
 use Rattle.av1_rec.specs.declared.program.status.Status.{Status}
 use Rattle.av1_rec.specs.declared.program.status.Status.TheVariants.{Done, OutOfMemory, Usage, ReadFault, TooLong, Syntax, NoTiling, Group, WriteFault}
 
+-- the number of a status, as the program's exit code
 abbrev pub status_code : Status → ℕ
 status_code Done = 0
 status_code OutOfMemory = 1
@@ -16,11 +17,11 @@ status_code NoTiling = 6
 status_code (Group error) = 7
 status_code WriteFault = 8
 
--- a word and the tile that is at fault
+-- the line of a refusal that a tile causes: `refused`, a word, `tile` and the tile's number
 unfoldable pub tile_line : List ℕ → ℕ → List ℕ
 tile_line word tile = codes "refused " ++ word ++ codes " tile " ++ decimal tile ++ codes "\n"
 
--- the line of a group's error; want of memory has none
+-- the line of a group's error; a want of memory has no line
 unfoldable pub group_line : GroupError → List ℕ
 group_line errors.OutOfMemory = []
 group_line (errors.Coder tile) = tile_line (codes "coder") tile
@@ -30,10 +31,11 @@ group_line (errors.BadSample tile) = tile_line (codes "sample") tile
 group_line (errors.BadBlock tile) = tile_line (codes "block") tile
 group_line (errors.BadUnit tile) = tile_line (codes "unit") tile
 
+-- the line of a refusal of a wrong text, with the number of its first wrong line
 unfoldable pub syntax_line : ℕ → List ℕ
 syntax_line line = codes "refused syntax line " ++ decimal line ++ codes "\n"
 
--- the line of a refusal; other ends have none
+-- the line of a refusal; statuses that refuse nothing have no line
 unfoldable pub refusal_line : Status → List ℕ
 refusal_line Usage = codes "refused usage\n"
 refusal_line ReadFault = codes "refused read\n"

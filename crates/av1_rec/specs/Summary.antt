@@ -5,29 +5,31 @@ use Rattle.av1_plane.specs.declared.region.PlaneRegion.{PlaneRegion}
 use Rattle.av1_plane.specs.Reading.{area_seen}
 use Rattle.av1_rec.specs.Report.{Reported, natural, spaced}
 
--- the sum of a row's samples, and of some rows'
+-- the sum of a row's samples
 abbrev pub row_sum : List ℤ → ℕ
 row_sum [] = 0
 row_sum (v ∷ row) = natural v + row_sum row
 
+-- the sum of the samples of all rows
 abbrev pub rows_sum : List (List ℤ) → ℕ
 rows_sum [] = 0
 rows_sum (row ∷ rows) = row_sum row + rows_sum rows
 
--- `sum P S`
+-- `sum P S`: the number of a plane, and the sum of its samples
 unfoldable pub sum_line : ℕ → List (List ℤ) → List ℕ
 sum_line p rows = codes "sum" ++ spaced p ++ spaced (rows_sum rows) ++ codes "\n"
 
--- the lines of the planes from number p on
+-- the sums of the planes from number p on, one on each line
 unfoldable pub sum_lines : ℕ → List (List (List ℤ)) → List ℕ
 sum_lines p [] = []
 sum_lines p (rows ∷ planes) = sum_line p rows ++ sum_lines (p + 1) planes
 
--- the lines before the sums
+-- the lines of a summary before its sums
 unfoldable pub summary_head : (levels : List ℕ) (size_bytes context_tile : ℕ) (group : List ℕ) → List ℕ
 summary_head levels size_bytes context_tile group =
     codes "levels" ++ flat_map spaced levels ++ codes "\nsize_bytes" ++ spaced size_bytes ++ codes "\ncontext_tile" ++ spaced context_tile ++ codes "\ngroup_len" ++ spaced (length group) ++ codes "\n"
 
+-- the text of a summary
 unfoldable pub summary : Reported → List ℕ
 summary r = summary_head r.levels r.size_bytes r.context_tile r.group ++ sum_lines 0 r.planes ++ codes "end\n"
 

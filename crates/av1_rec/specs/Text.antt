@@ -1,5 +1,6 @@
--- The whole text: the header, the source's rows, each tile's result, and the last line. What is said of it is the
--- fault of the first wrong text_line, that there is no tiling (AV1 specification, section 5.9.15), or what it says.
+-- The whole text: the header, the source's rows, each tile's result, and the last line. Reading gives
+-- the fault of the first wrong line, that there is no tiling (AV1 specification, section 5.9.15), or
+-- what the text says.
 use Rattle.std.specs.Prelude.{◌≡◌, ℕ, ◌+◌, ◌-◌, ◌*◌, ◌/◌, ◌^◌, ℤ, pos, List, map, take, length, Bool, ◌==◌, nat_lt, if◌then◌else◌, Option, Some, None, Result, Ok, Err, codes}
 use Rattle.std.specs.List.{count_by}
 use Rattle.av1_plane.specs.declared.three.Three.{Three}
@@ -25,7 +26,7 @@ use Rattle.av1_rec.specs.UnitTables.{tile_unit_extents}
 use Rattle.av1_rec.specs.Recorded.{Recorded, recorded}
 use Rattle.av1_rec.specs.Tile.{tile}
 
--- what a text says, and the tiling of its frame
+-- what a text says, with the tiling of its frame
 pub record Said : Type 0 where
   pub header : Header
   pub tiling : TilingInfo
@@ -67,19 +68,20 @@ tiled_header text = do
   t ← tiling h.0
   Ok (h.0, t, h.1)
 
--- no samples in a plane
+-- the sides of a plane without samples
 abbrev pub no_samples : Extent
 no_samples = record { width = 0; height = 0 }
 
--- the samples of the picture: luma, and each chroma plane
+-- the sides of the picture in luma
 abbrev pub luma_picture : FrameFormat → Extent
 luma_picture f = record { width = f.width; height = f.height }
 
+-- the sides of the picture in a chroma plane
 abbrev pub chroma_picture : FrameFormat → Option (ℕ × ℕ) → Extent
 chroma_picture f None = no_samples
 chroma_picture f (Some (xdec, ydec)) = record { width = visible f.width xdec; height = visible f.height ydec }
 
--- samples have four digits from 10 bits on
+-- whether samples have four hexadecimal digits, as they have from 10 bits on
 abbrev pub is_wide : FrameFormat → Bool
 is_wide f = nat_lt 8 f.depth
 
@@ -89,17 +91,20 @@ source_rows f text = do
   rest ← text_line (tag (codes "source\n")) text
   planes (is_wide f) (2 ^ f.depth) (luma_picture f) (chroma_picture f (decimation f.sampling)) rest
 
--- the samples of tile n inside the frame, and its blocks
+-- the sides of tile n in luma, inside the frame
 abbrev pub luma_of : TilingInfo → ℕ → Extent
 luma_of t n = record { width = (tile_luma t n).width; height = (tile_luma t n).height }
 
+-- the sides of tile n in a chroma plane, inside the frame
 abbrev pub chroma_of : TilingInfo → ℕ → Option (ℕ × ℕ) → Extent
 chroma_of t n None = no_samples
 chroma_of t n (Some (xdec, ydec)) = record { width = (tile_luma t n).width / 2 ^ xdec; height = (tile_luma t n).height / 2 ^ ydec }
 
+-- the sides of tile n in blocks
 abbrev pub blocks_of : TilingInfo → ℕ → Extent
 blocks_of t n = record { width = (tile_blocks t n).width; height = (tile_blocks t n).height }
 
+-- the sides of tile n: in luma, in chroma, and in blocks
 unfoldable pub tile_shape : FrameFormat → TilingInfo → ℕ → TileShape
 tile_shape f t n = record { luma = luma_of t n; chroma = chroma_of t n (decimation f.sampling); blocks = blocks_of t n }
 
@@ -111,13 +116,13 @@ tile_at h t n text = tile (is_wide h.format) (tile_shape h.format t n) (tile_uni
 unfoldable pub tiles : Header → TilingInfo → List ℕ → Result (List Recorded × List ℕ) Fault
 tiles h t text = numbered (tile_at h t) 0 (t.cols * t.rows) text
 
--- the last text_line, and nothing after it
+-- the last line, and nothing after it
 unfoldable pub end : List ℕ → Result (Unit {0}) Fault
 end text = do
   rest ← text_line (tag (codes "end\n")) text
   if length rest == 0 then Ok tt else Err (Wrong (length rest))
 
--- what follows the header
+-- what follows the header: the source, the tiles' results and the last line
 unfoldable pub body : Header → TilingInfo → List ℕ → Result Said Fault
 body h t text = do
   picture ← source_rows h.format text
@@ -131,11 +136,11 @@ text_of text = do
   h ← tiled_header text
   body h.0 h.1 h.2
 
--- the number of the line that begins where so many bytes are left, or of which a part begins there
+-- the number of the line in which the last `left` bytes of a text begin
 unfoldable pub line_number : List ℕ → ℕ → ℕ
 line_number text left = count_by (λ c. c == 10) (take (length text - left) text) + 1
 
--- what the program keeps of a text, as said by it
+-- what a parsed text says, as plain data, with its samples as numbers
 abbrev pub said : {X : Type 0} → (X → ℤ) → Text X → Said
 said number t = record {
   header = t.header;
@@ -144,7 +149,7 @@ said number t = record {
   tiles = map (recorded number) t.tiles.items;
 }
 
--- and of samples of either type
+-- what a parsed text says, whether its samples are bytes or words
 abbrev pub frame_said : FrameText → Said
 frame_said (Bytes t) = said pos t
 frame_said (Words t) = said pos t

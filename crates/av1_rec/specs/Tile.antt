@@ -26,21 +26,21 @@ hex_line text = if nat_lt (line_length text) 2 then Err (Wrong (length text)) el
   rest ← text_line (tag (codes "\n")) bytes.1
   Ok (bytes.0, rest))
 
--- BYTES: `-` for none, or at least one
+-- BYTES: `-` for no bytes, or at least one byte in hexadecimal digits
 unfoldable pub bytes_line : List ℕ → Result (List ℕ × List ℕ) Fault
 bytes_line text = elim (tag (codes "-\n") text) [ Some rest ↦ Ok ([], rest) | None ↦ hex_line text ]
 
--- a word, a count behind a space, and the line's end
+-- a word, a space and a count, and the line feed
 unfoldable pub count_line : List ℕ → List ℕ → Option (ℕ × List ℕ)
 count_line word text = option_bind (tag word text) (λ rest. option_bind (field 0 4294967295 rest) (λ n. option_bind (tag (codes "\n") n.1) (λ rest. Some (n.0, rest))))
 
--- `units COUNT` and so many lines
+-- `units COUNT`, and as many lines of units
 unfoldable pub unit_lines : Three Extent → List ℕ → Result (List UnitLine × List ℕ) Fault
 unit_lines units text = do
   count ← text_line (count_line (codes "units")) text
   many (text_line (unit_line units)) count.0 count.1
 
--- samples of four digits have 16 bits, those of two 8
+-- the limit of samples by their digits: 16 bits have four, 8 bits have two
 abbrev pub digit_limit : Bool → ℕ
 digit_limit wide = if wide then 65536 else 256
 
@@ -57,12 +57,12 @@ coded wide shape units text = do
     set.1,
   )
 
--- `refused`, or a coded tile
+-- the word `refused`, or a coded tile
 unfoldable pub tile_result : Bool → TileShape → Three Extent → List ℕ → Result (Recorded × List ℕ) Fault
 tile_result wide shape units text =
     elim (tag (codes "refused\n") text) [ Some rest ↦ Ok (Refused, rest) | None ↦ coded wide shape units text ]
 
--- `tile N` and its result
+-- `tile N` and the result of the tile
 unfoldable pub tile : Bool → TileShape → Three Extent → ℕ → List ℕ → Result (Recorded × List ℕ) Fault
 tile wide shape units n text = do
   rest ← text_line (tag (codes "tile")) text

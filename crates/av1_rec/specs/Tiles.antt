@@ -17,7 +17,7 @@ pub record IsTileNumber (t : TilingInfo) (n : ℕ) : Type 0 where
   pub tile_wide : 0 < t.tile_width_sb
   pub tile_high : 0 < t.tile_height_sb
 
--- so is each tile of the grid, of which there are at most 4096
+-- each tile of the grid begins inside the frame, and there are at most 4096
 pub record AreTiles (t : TilingInfo) : Type 0 where
   pub few : t.cols * t.rows ≤ 4096
   pub each : (n : ℕ) → n < t.cols * t.rows → IsTileNumber t n

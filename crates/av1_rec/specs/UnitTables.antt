@@ -9,13 +9,13 @@ use Rattle.av1_rec.specs.declared.text.extent.Extent.{Extent}
 use Rattle.av1_rec.specs.declared.text.header.Header.{Header}
 use Rattle.av1_rec.specs.Parameters.{frame_parameters}
 
--- the units of tile n in a plane whose units are laid out so
+-- how many columns and rows of units tile n has in a plane whose units have this layout
 abbrev pub unit_extent : TilingInfo → RestorationPlaneConfig → ℕ → Extent
 unit_extent t cfg n =
     let units = tile_units t cfg.sb_h_shift cfg.sb_v_shift cfg.cols cfg.rows n in
     record { width = units.width; height = units.height }
 
--- the units of tile n in each plane
+-- how many columns and rows of units tile n has in each plane
 abbrev pub unit_extents : TilingInfo → Three RestorationPlaneConfig → ℕ → Three Extent
 unit_extents t layouts n = record {
   y = unit_extent t layouts.y n;
@@ -23,7 +23,7 @@ unit_extents t layouts n = record {
   v = unit_extent t layouts.v n;
 }
 
--- so many does a tile of a header's frame have
+-- how many columns and rows of units tile n of a header's frame has in each plane
 unfoldable pub tile_unit_extents : Header → TilingInfo → ℕ → Three Extent
 tile_unit_extents h t n = unit_extents t (unit_layouts (frame_parameters h t)) n
 

@@ -25,7 +25,7 @@ three_taps text = do
   c ← delta b.1
   Some (a.0 ∷ b.0 ∷ c.0 ∷ [], c.1)
 
--- ` wiener A B C D E F`
+-- ` wiener A B C D E F`: the coefficients down, then the coefficients across
 unfoldable pub wiener_unit : List ℕ → Option (RestorationFilter × List ℕ)
 wiener_unit text = do
   rest ← tag (codes " wiener") text
@@ -33,7 +33,7 @@ wiener_unit text = do
   horizontal ← three_taps vertical.1
   Some (filters.Wiener (vertical.0 ∷ horizontal.0 ∷ []), horizontal.1)
 
--- ` sgrproj SET W0 W1`
+-- ` sgrproj SET W0 W1`: a set of strengths, and the weights of both passes
 unfoldable pub self_guided : List ℕ → Option (RestorationFilter × List ℕ)
 self_guided text = do
   rest ← tag (codes " sgrproj") text
@@ -42,18 +42,18 @@ self_guided text = do
   second ← delta first.1
   Some (filters.Sgrproj set.0 (first.0 ∷ second.0 ∷ []), second.1)
 
--- ` none`, or one of those
+-- the word ` none`, a Wiener filter or a self-guided one
 unfoldable pub unit_filter : List ℕ → Option (RestorationFilter × List ℕ)
 unit_filter text = elim (tag (codes " none") text) [
   | Some rest ↦ Some (filters.None, rest)
   | None ↦ elim (wiener_unit text) [ Some x ↦ Some x | None ↦ self_guided text ]
 ]
 
--- the entry of a plane
+-- the entry of plane p
 abbrev pub of_plane : {A : Type 0} → ℕ → Three A → A
 of_plane p three = if p == 0 then three.y else (if p == 1 then three.u else three.v)
 
--- `P X Y` and what that unit of the tile does; the tile has so many units of each plane
+-- `P X Y` and the filter of this unit of the tile, which has these numbers of units in each plane
 unfoldable pub unit_line : Three Extent → List ℕ → Option (UnitLine × List ℕ)
 unit_line units text = do
   p ← number_in 0 2 text
@@ -72,12 +72,12 @@ abbrev pub unit_after : RestorationUnit → List UnitLine → (p x y : ℕ) → 
 unit_after before [] p x y = before
 unit_after before (line ∷ lines) p x y = unit_after (if sets line p x y then line.unit else before) lines p x y
 
--- a tile's units of a plane, row by row, which leave their samples as they are where no line says more
+-- a tile's units of a plane, row by row; a unit that no line sets has no filter
 unfoldable pub units_said : Extent → ℕ → List UnitLine → List RestorationUnit
 units_said units p lines =
     first_values (λ k. unit_after no_unit lines p (k % units.width) (k / units.width)) (units.width * units.height)
 
--- those of all planes
+-- a tile's units of all planes, as the lines set them
 abbrev pub tile_units_said : Three Extent → List UnitLine → Three (List RestorationUnit)
 tile_units_said units lines = record {
   y = units_said units.y 0 lines;

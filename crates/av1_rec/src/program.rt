@@ -49,7 +49,7 @@ fn fault_answer(alloc: Global, text: &[u8], fault: Fault) -> Result<(Status, Vec
     }
 }
 
-// What a text asks for, for the report of its frame. The text is let go before the frame is coded.
+// The answer to a text, with the report of its frame. The text is let go before the frame is coded.
 #[tactic(auto, unfolding(crate::specs::Answer::text_answer))]
 fn text_answer<R: Threads + Sync, G: Gate>(
     rt: &R,
@@ -72,7 +72,7 @@ fn text_answer<R: Threads + Sync, G: Gate>(
     }
 }
 
-// What a text asks for, for its tile grid.
+// The answer to a text, with its tile grid.
 #[tactic(auto, unfolding(crate::specs::Answer::grid_answer))]
 fn grid_answer(alloc: Global, text: &[u8]) -> Result<(Status, Vec<u8>), AllocError>
     requires { length text.now ≤ 2 ^ 28 }
@@ -86,7 +86,7 @@ fn grid_answer(alloc: Global, text: &[u8]) -> Result<(Status, Vec<u8>), AllocErr
     }
 }
 
-// What a command asks for of a text.
+// The answer to a command and a text.
 fn answer_of<R: Threads + Sync, G: Gate>(
     rt: &R,
     alloc: Global,
@@ -107,7 +107,7 @@ fn answer_of<R: Threads + Sync, G: Gate>(
     }
 }
 
-// What the words and the source ask for, where there is memory.
+// The answer to the words and the source, where there is memory.
 #[tactic(auto, unfolding(crate::specs::Answer::asked, crate::specs::Answer::input_answer))]
 fn try_make<R: Threads + Sync, S: Source, G: Gate>(
     rt: &R,
@@ -143,7 +143,7 @@ fn try_make<R: Threads + Sync, S: Source, G: Gate>(
     }
 }
 
-// What the words and the source ask for.
+// The answer to the words and the source, or that memory ran out.
 fn make<R: Threads + Sync, S: Source, G: Gate>(
     rt: &R,
     alloc: Global,
@@ -188,7 +188,7 @@ fn finish<K: Sink>(sink: &mut K, status: Status, printed: &[u8]) -> Status
 /// `group N` reads a text from `source` to its end, codes its tiles by N workers and writes the report of
 /// its tile group. `tiles` reads a text to its end and writes the tile grid of its header. `gen K N` makes
 /// a frame from K, codes it by N workers and writes its summary. It reads nothing, and so do other words.
-/// The gate is told of each tile that a worker claims. What is written doesn't depend on N.
+/// The gate hears of each tile that a worker claims. What is written doesn't depend on N.
 #[tactic(auto, using(crate::proofs::Ends::ends))]
 pub fn run<R: Threads + Sync, S: Source, K: Sink, G: Gate>(
     rt: &R,

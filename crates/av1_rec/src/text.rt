@@ -57,7 +57,7 @@ pub struct Text<T> {
     pub tiles: Vec<RecordedTile<T>>,
 }
 
-/// What a text says of samples of 8 bits, or of more.
+/// What a text says, with samples of 8 bits or of more.
 #[derive(Drop)]
 pub enum FrameText {
     Bytes(Text<u8>),
@@ -128,7 +128,7 @@ pub fn chroma_picture(format: &FrameFormat) -> Extent
     }
 }
 
-// What samples of a depth are below.
+// The limit below which the samples of a depth are.
 fn sample_limit(depth: u32) -> u32
     requires { IsSampleDepth depth }
     ensures { result ≡ 2 ^ depth }
@@ -164,7 +164,7 @@ fn source<'a, T: Pixel + Drop>(
     planes(alloc, format.depth > 8, limit, &luma, &chroma, rest)
 }
 
-// The samples of tile `n` in each chroma plane, by those of luma.
+// The sides of a tile in each chroma plane, by its sides in luma.
 fn chroma_of(sampling: ChromaSampling, luma: Extent) -> Extent
     ensures none { decimation sampling ≡ None → result ≡ record { width = 0; height = 0 } }
     ensures some { IfSome (decimation sampling)

@@ -9,7 +9,7 @@ use av1_plane::Pixel;
 use av1_tiling::{TileContextMut, TilingInfo};
 use std::alloc::Global;
 
-/// A coder that gives recorded results again: `tiles` are those of the first tiles of `tiling`, row by
+/// A coder that gives recorded results again: `tiles` has the first tiles' results of `tiling`, row by
 /// row.
 #[derive(Drop)]
 pub struct RecordedCoder<T> {
@@ -75,7 +75,7 @@ fn entry_at<'a, T: Pixel>(
 impl<T: Pixel + Send + Sync> TileCoder<T> for RecordedCoder<T> {
     ghost meaning = { λ c v. recorded_meaning c.tiling (map (recorded T.number) c.tiles.items) v };
 
-    /// Refuses a view where no tile begins, where nothing is recorded for it, and where what is recorded
+    /// Refuses a view where no tile begins, a view without a recorded result, and a view whose result
     /// has other sides.
     fn code(&self, alloc: Global, ctx: &mut TileContextMut<T>) -> Result<Vec<u8>, CodeError> {
         let sbo = ctx.ts.sbo.0;

@@ -1,4 +1,4 @@
-//! Recorded rows of samples: whether they have the sides of a view's parts, and writing them into it.
+//! Recorded rows of samples: testing that they have the sides of a view's parts, and writing them there.
 ghost use Rattle.std.specs.Prelude.{◌≡◌, ◌<◌, ◌≤◌, ◌+◌, ◌==◌, length, map, true};
 ghost use Rattle.std.specs.List.{list_all};
 ghost use Rattle.av1_block.specs.Cut.{LiesIn, overwritten, with_cut};
@@ -45,7 +45,7 @@ fn sides_inside<T: Pixel>(ts: &TileStateMut<T>, pli: usize) -> (usize, usize)
     plane_sides_inside(&ts.input.planes[pli], ts.samples_rect(pli))
 }
 
-// Whether each row is so long.
+// Whether each row is `width` samples long.
 #[tactic(auto, using(crate::proofs::RecordedRows::row_tests))]
 fn are_long<T: Pixel>(rows: &[Vec<T>], width: usize) -> bool
     ensures { result ≡ are_long width (numbers_of T.number rows.now) }
@@ -60,7 +60,7 @@ fn are_long<T: Pixel>(rows: &[Vec<T>], width: usize) -> bool
     true
 }
 
-// Whether there are so many rows, each so long.
+// Whether there are as many rows as asked for, each as long as asked for.
 #[tactic(auto, using(crate::proofs::RecordedRows::row_tests))]
 fn have_sides<T: Pixel>(sides: (usize, usize), rows: &[Vec<T>]) -> bool
     ensures { result ≡ have_sides sides (numbers_of T.number rows.now) }

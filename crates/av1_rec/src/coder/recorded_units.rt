@@ -1,4 +1,4 @@
-//! Recorded restoration units: whether there are as many as a view has, and writing them into it.
+//! Recorded restoration units: testing that they are as many as a view has, and writing them there.
 ghost use Rattle.std.specs.Prelude.{◌≡◌, ◌<◌, length, true};
 ghost use Rattle.av1_tiling.specs.Views.{plane_at, with_units};
 ghost use Rattle.av1_rec.specs.Recorded.{unit_lists, units_fit, with_unit_lists};

@@ -6,11 +6,11 @@ use crate::text::fields::{number_in, tag};
 /// What the words of a command line ask for.
 #[derive(Clone, Copy, Debug, PartialEq, Eq)]
 pub enum Command {
-    /// The report of a text's frame, coded by so many workers.
+    /// The report of a text's frame, coded by `workers` workers.
     Group { workers: u32 },
     /// The tile grid of a text's header.
     Tiles,
-    /// The summary of a frame that is generated from a seed and coded by so many workers.
+    /// The summary of a frame that is generated from a seed and coded by `workers` workers.
     Gen { seed: u32, workers: u32 },
 }
 

@@ -11,7 +11,7 @@ use av1_frame::Gate;
 use std::alloc::{AllocError, Global};
 use std::thread::Threads;
 
-/// What a number asks for: the summary of the frame that is made from it.
+/// The answer to a seed: the summary of the frame that is made from the seed.
 #[tactic(auto, unfolding(crate::specs::Answer::generated_answer), using(crate::proofs::Depths::narrow_depth))]
 pub fn generated_answer<R: Threads + Sync, G: Gate>(
     rt: &R,

@@ -144,7 +144,7 @@ fn coded_report<T: Pixel + Drop + Send + Sync, R: Threads + Sync, G: Gate>(
     Ok(frame_report(alloc, &fi, &fs, &group, form)?)
 }
 
-/// What a text of this sample type asks for: a status, and what is printed.
+/// The answer to a text of this sample type: a status, and what is printed.
 #[tactic(auto, unfolding(crate::specs::Group::group_answer))]
 pub fn group_of<T: Pixel + Drop + Send + Sync, R: Threads + Sync, G: Gate>(
     rt: &R,
@@ -177,7 +177,7 @@ fn group_refusal(alloc: Global, error: GroupError) -> Result<(Status, Vec<u8>), 
     }
 }
 
-/// What a text asks for: a status, and what is printed.
+/// The answer to a text: a status, and what is printed.
 pub fn group<R: Threads + Sync, G: Gate>(
     rt: &R,
     alloc: Global,

@@ -36,7 +36,7 @@ impl MemorySink {
         }
     }
 
-    /// What was written.
+    /// The bytes that were written.
     pub fn bytes(&self) -> &[u8]
         ensures { result.now ≡ sink_bytes self.now }
     {
@@ -106,7 +106,7 @@ impl PlainSink {
         }
     }
 
-    /// What was written.
+    /// The bytes that were written.
     pub fn bytes(&self) -> &[u8]
         ensures { result.now ≡ plain_bytes self.now }
     {

@@ -92,7 +92,7 @@ fn line_feeds(text: &[u8]) -> usize
     count
 }
 
-/// The number of the line of which a part begins where so many bytes are left.
+/// The number of the line of which a part begins where `left` bytes of the text are left.
 #[tactic(auto, unfolding(crate::specs::Text::line_number))]
 pub fn line_number(text: &[u8], left: usize) -> u32
     requires { length text.now ≤ 2 ^ 28 }

@@ -9,13 +9,13 @@ use std::alloc::{AllocError, Global};
 /// How a coded frame is printed.
 #[derive(Clone, Copy, Debug, PartialEq, Eq)]
 pub enum Form {
-    /// Its bytes and all samples of its picture.
+    /// The bytes of the tile group and all samples of the picture.
     Report,
     /// How many bytes there are, and the sum of each plane's samples.
     Summary,
 }
 
-/// What is reported of a frame beside its samples.
+/// The numbers and bytes that are reported of a frame beside its samples.
 #[derive(Clone, Copy, Debug)]
 pub struct Results<'a> {
     pub levels: [u8; 4],
@@ -133,7 +133,7 @@ fn put_plane<T: Pixel>(
     put_rows(out, wide, region)
 }
 
-// All planes.
+// Appends the text of all planes.
 #[tactic(auto, using(crate::proofs::RegionRows::planes_steps))]
 fn put_planes<T: Pixel>(
     out: &mut Vec<u8>,

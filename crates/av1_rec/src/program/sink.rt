@@ -15,7 +15,7 @@ pub trait Sink {
     /// The bytes written, where the sink tells them.
     ghost written: { Self → Option (List ℕ) };
 
-    /// How often a write failed. The count never falls, and a write that works leaves it; at 2^64 - 1 it
+    /// How often a write failed. The count never falls, a write that works keeps it, and at 2^64 - 1 it
     /// stands still.
     ghost faults: { Self → ℕ };
 

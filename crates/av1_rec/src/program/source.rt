@@ -11,7 +11,7 @@ pub trait Source {
     /// The bytes left, where the source tells them.
     ghost left: { Self → Option (List ℕ) };
 
-    /// How often a read failed. The count never falls, and a read that works leaves it; at 2^64 - 1 it
+    /// How often a read failed. The count never falls, a read that works keeps it, and at 2^64 - 1 it
     /// stands still.
     ghost faults: { Self → ℕ };
 

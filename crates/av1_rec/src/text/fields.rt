@@ -11,7 +11,7 @@ pub fn first(text: &[u8]) -> Option<(u8, &[u8])>
     }
 }
 
-/// What follows `word`.
+/// The bytes that follow `word`, if the text begins with it.
 #[tactic(auto, using(crate::proofs::Numbers::tag_short))]
 pub fn tag<'a>(text: &'a [u8], word: &[u8]) -> Option<&'a [u8]>
     ensures { option_map (λ x. x.now) result ≡ tag word.now text.now }

@@ -22,14 +22,14 @@ pub struct TilingTarget {
     pub rows_log2: u32,
 }
 
-/// What a frame is quantised by.
+/// The quantisers of a frame.
 #[derive(Clone, Copy, Debug)]
 pub struct Quantizers {
     pub ac_quantizer: u16,
     pub base_q_idx: u8,
 }
 
-/// What is switched on.
+/// The switches of a frame's coding.
 #[derive(Clone, Copy, Debug)]
 pub struct Switches {
     pub fast_deblock: bool,

@@ -53,7 +53,7 @@ fn row<T: Pixel + Drop>(
     }
 }
 
-// So many lines of samples.
+// `height` lines of samples.
 #[tactic(auto, using(crate::proofs::Many::many_steps))]
 fn rows<T: Pixel + Drop>(
     alloc: Global,

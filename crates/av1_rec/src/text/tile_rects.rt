@@ -19,7 +19,7 @@ fn tile_superblock(tiling: &TilingInfo, n: usize) -> (usize, usize)
     )
 }
 
-// So many units of a side, cut to what is left.
+// `count` units of a side, cut to what is left.
 fn cut_side(count: usize, unit: usize, left: usize) -> usize
     ensures { result ≡ min (count * unit) left }
 {
@@ -79,8 +79,8 @@ pub fn tile_blocks(tiling: &TilingInfo, n: usize) -> TileRect
     }
 }
 
-// Where a tile's units begin and how many there are along a side: the tile has so many superblocks from
-// this one on, and a unit `2^shift` of them.
+// Where a tile's units begin and how many there are along a side: the tile has `superblocks` superblocks
+// from `superblock` on, and a unit has `2^shift` superblocks.
 #[tactic(auto, using(crate::proofs::TileFacts::few_units))]
 fn units_along(superblock: usize, superblocks: usize, shift: usize, units: usize) -> (usize, usize)
     requires { shift ≤ 8 }

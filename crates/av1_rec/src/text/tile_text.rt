@@ -47,7 +47,7 @@ fn one_byte(text: &[u8]) -> Result<(u8, &[u8]), TextError>
     }
 }
 
-// So many bytes.
+// `count` bytes in hexadecimal digits.
 #[tactic(auto, using(crate::proofs::Many::many_steps))]
 fn hex_bytes(alloc: Global, count: usize, text: &[u8]) -> Result<(Vec<u8>, &[u8]), TextError>
     ensures { Gives (λ x. (x.0.items, x.1.now)) result (many (text_line hex_byte) count text.now) }
@@ -109,7 +109,7 @@ fn one_block(cols: u32, rows: u32, text: &[u8]) -> Result<(BlockLine, &[u8]), Te
     }
 }
 
-// So many rectangles of blocks.
+// `count` lines of rectangles of blocks.
 #[tactic(auto, using(crate::proofs::Many::many_steps))]
 fn block_lines(
     alloc: Global,
@@ -142,7 +142,7 @@ fn one_unit<'a>(units: &Three<Extent>, text: &'a [u8]) -> Result<(UnitLine, &'a 
     }
 }
 
-// So many restoration units.
+// `count` lines of restoration units.
 #[tactic(auto, using(crate::proofs::Many::many_steps))]
 fn many_units<'a>(
     alloc: Global,
@@ -163,7 +163,7 @@ fn many_units<'a>(
     Ok((lines, rest))
 }
 
-// `units COUNT` and so many lines.
+// `units COUNT`, and as many lines of units.
 #[tactic(auto, unfolding(crate::specs::Tile::unit_lines))]
 fn unit_lines<'a>(
     alloc: Global,
@@ -228,7 +228,7 @@ fn tile_result<'a, T: Pixel + Drop>(
     }
 }
 
-/// The recorded result of tile `n`, of this shape, with so many units of each plane.
+/// The recorded result of tile `n`, of this shape, with these numbers of units of each plane.
 #[tactic(auto, unfolding(crate::specs::Tile::tile))]
 pub fn tile<'a, T: Pixel + Drop>(
     alloc: Global,

@@ -85,7 +85,7 @@ pub fn of_plane(p: u32, units: &Three<Extent>) -> Extent
     }
 }
 
-/// The line `P X Y` and a filter, of a tile that has so many units of each plane.
+/// The line `P X Y` and a filter, of a tile with these numbers of units of each plane.
 #[tactic(auto, unfolding(crate::specs::Units::unit_line))]
 pub fn unit_line<'a>(units: &Three<Extent>, text: &'a [u8]) -> Option<(UnitLine, &'a [u8])>
     ensures { option_map (λ x. (x.0, x.1.now)) result ≡ unit_line units.now text.now }

@@ -9,7 +9,7 @@ use av1_plane::Three;
 use av1_tiling::RestorationUnit;
 use std::alloc::{AllocError, Global};
 
-// Writes a line's unit to its place in the units of plane `p`, if it is one of them.
+// Writes a line's unit to its place in the units of plane `p`, if the line sets a unit of this plane.
 #[tactic(auto, using(crate::proofs::UnitPlaces::written))]
 fn write_line(units: &mut [RestorationUnit], extent: Extent, p: u32, line: UnitLine)
     requires table { length units.old ≡ extent.width * extent.height }
@@ -51,7 +51,7 @@ fn units_said(
     Ok(units)
 }
 
-/// The units of a tile that has so many of each plane, row by row: units that leave their samples as they
+/// The units of a tile with these numbers of them, row by row: units that leave their samples as they
 /// are, over which each line is written in order.
 pub fn tile_units_said(
     alloc: Global,

@@ -5,6 +5,7 @@ use Rattle.av1_rec.specs.Text.{tile_at}
 use Rattle.av1_rec.proofs.Many.{with_front}
 use Rattle.av1_rec.proofs.text.tiles.Given as goal
 
+-- The tiles read and the rest of the text give what all tiles give.
 abbrev pub invariant-loop-n : goal.invariant-loop-n
 invariant-loop-n g l =
     let count = l.tiling.cols * l.tiling.rows in

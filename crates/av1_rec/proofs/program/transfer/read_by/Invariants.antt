@@ -2,6 +2,7 @@ use Rattle.std.proofs.Common.{◌≡◌, ◌≤◌, ◌+◌, ◌-◌, ◌^◌, v
 use Rattle.std.specs.Io.KnownBytes.{Consumes}
 use Rattle.av1_rec.proofs.program.transfer.read_by.Given as goal
 
+-- The text is what was taken off the source without a fault, at most one byte too long.
 abbrev pub invariant-loop-text : goal.invariant-loop-text
 invariant-loop-text g l = record {
   taken : Consumes (g.S.Source.left l.fn.source) (g.S.Source.left l.source) l.text.items;
@@ -9,5 +10,6 @@ invariant-loop-text g l = record {
   quiet : g.S.Source.faults l.source ≡ g.S.Source.faults l.fn.source;
 }
 
+-- Each turn of the loop reads at least one byte.
 abbrev pub decreases-loop-text : goal.decreases-loop-text
 decreases-loop-text g l = 2 ^ 28 + 1 - vec_len l.text

@@ -4,5 +4,6 @@ use Rattle.av1_rec.specs.Units.{unit_line}
 use Rattle.av1_rec.proofs.Many.{with_front}
 use Rattle.av1_rec.proofs.text.tile_text.many_units.Given as goal
 
+-- The lines read and the rest of the text give what all lines give.
 abbrev pub invariant-loop : goal.invariant-loop
 invariant-loop l = with_front l.lines.items (many (text_line (unit_line l.units)) (l.count - l.counter) l.rest) ≡ many (text_line (unit_line l.units)) l.count l.text
