@@ -1,4 +1,4 @@
-//! Reads a text of recorded tile results from standard input, and writes what it asks for.
+//! Reads a text of recorded tile results from standard input, and writes the answer of `av1_rec`'s run.
 //!
 //! `av1_rec_main group 1` ends with the number of its status, which is 0 only where the report was
 //! written.
