@@ -93,7 +93,8 @@ impl<E: Copy> Table<E> {
     pub(crate) fn run(&self, x: usize, y: usize, width: usize) -> &[E]
         requires across { x + width ≤ self.now.cols }
         requires down { y < self.now.rows }
-        ensures { result.now ≡ take width (drop (y * self.now.cols + x) self.now.entries) }
+        ensures run { result.now ≡ take width (drop (y * self.now.cols + x) self.now.entries) }
+        ensures long { length result.now ≡ width }
     {
         let from = y * self.cols + x;
         &self.entries[from..from + width]

@@ -177,8 +177,9 @@ impl<'a, E: Copy> TileViewMut<'a, E> {
     pub fn row(&self, y: usize) -> &[E]
         requires placed { IsPlaced self.now }
         requires row { y < (window self.now).rows }
-        ensures { result.now ≡ take (window self.now).cols
+        ensures row { result.now ≡ take (window self.now).cols
             (drop (place_under self.now 0 y) (entries_under self.now)) }
+        ensures long { length result.now ≡ (window self.now).cols }
     {
         self.table
             .run(self.window.left, self.window.top + y, self.window.cols)

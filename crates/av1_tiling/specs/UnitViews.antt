@@ -7,7 +7,7 @@ use Rattle.av1_block.specs.declared.tile_view.TileView.{TileView}
 use Rattle.av1_block.specs.RestorationUnit.{no_unit}
 use Rattle.av1_block.specs.declared.tile_view_mut.TileViewMut.{TileViewMut}
 use Rattle.av1_block.specs.Tables.{view_entries, view_step, view_cols, view_rows}
-use Rattle.av1_block.specs.Writing.{entries_under, place_under}
+use Rattle.av1_block.specs.Writing.{window, entries_under, place_under}
 use Rattle.av1_tiling.specs.declared.unit_side.UnitSide.{UnitSide}
 use Rattle.av1_tiling.specs.declared.restoration_plane.RestorationPlaneConfig.{RestorationPlaneConfig}
 
@@ -79,6 +79,10 @@ is_last_along side frame_superblocks first s =
 abbrev pub view_sides : {E : Type 0} → TileView E → ℕ × ℕ
 view_sides v = (view_cols v, view_rows v)
 
+-- the sides of a view for writing
+abbrev pub sides_under : {E : Type 0} → TileViewMut E → ℕ × ℕ
+sides_under v = ((window v).cols, (window v).rows)
+
 -- the unit at a column and row of a view
 abbrev pub unit_at : TileView RestorationUnit → ℕ × ℕ → RestorationUnit
 unit_at v place = slice_index_or (view_entries v) (place.1 * view_step v + place.0) no_unit
@@ -87,7 +91,7 @@ unit_at v place = slice_index_or (view_entries v) (place.1 * view_step v + place
 abbrev pub unit_under : TileViewMut RestorationUnit → ℕ × ℕ → RestorationUnit
 unit_under v place = slice_index_or (entries_under v) (place_under v place.0 place.1) no_unit
 
--- whether a superblock is the last of its unit or of the frame along both sides
+-- along both sides of a view, superblock s of a tile is the last of its unit or of the frame
 abbrev pub is_last_superblock : RestorationPlaneConfig → ℕ × ℕ → (frame : ℕ × ℕ) → (first s : SuperBlockOffset) → Bool
 is_last_superblock cfg sides frame first s =
     is_last_along (across_side cfg sides.0) frame.0 first.x s.x && is_last_along (down_side cfg sides.1) frame.1 first.y s.y
