@@ -1,15 +1,22 @@
 -- A tile's view of a plane's restoration units: which unit a superblock of the tile belongs to.
-use Rattle.std.specs.Prelude.{ℕ, ℤ, pos, negsuc, ◌+◌, ◌-◌, ◌*◌, ◌/◌, ◌%◌, ◌^◌, ◌≤◌, ◌<◌, ◌≡◌, min, ◌==◌, ◌&&◌, ◌||◌, Bool, not, nat_le, nat_lt, Option, Some, None, if◌then◌else◌, List, [], ◌∷◌}
+use Rattle.std.specs.Prelude.{ℕ, ℤ, pos, negsuc, ◌+◌, ◌-◌, ◌*◌, ◌/◌, ◌%◌, ◌^◌, ◌≤◌, ◌<◌, ◌≡◌, min, drop, ◌==◌, ◌&&◌, ◌||◌, Bool, not, nat_le, nat_lt, Option, Some, None, if◌then◌else◌, List, [], ◌∷◌}
 use Rattle.std.specs.List.{slice_index_or}
 use Rattle.av1_plane.specs.declared.offset.SuperBlockOffset.{SuperBlockOffset}
+use Rattle.av1_plane.specs.declared.tile_rect.TileRect.{TileRect}
 use Rattle.av1_block.specs.declared.restoration_unit.RestorationUnit.{RestorationUnit}
 use Rattle.av1_block.specs.declared.tile_view.TileView.{TileView}
 use Rattle.av1_block.specs.RestorationUnit.{no_unit}
 use Rattle.av1_block.specs.declared.tile_view_mut.TileViewMut.{TileViewMut}
-use Rattle.av1_block.specs.Tables.{view_entries, view_step, view_cols, view_rows}
-use Rattle.av1_block.specs.Writing.{window, entries_under, place_under}
+use Rattle.av1_block.specs.declared.window.Window.{Window}
+use Rattle.av1_block.specs.Tables.{view_entries, view_step, view_x, view_y, view_cols, view_rows}
+use Rattle.av1_block.specs.Windows.{frame_window}
+use Rattle.av1_block.specs.Writing.{window, table_under, entries_under, place_under, IsPlaced}
 use Rattle.av1_tiling.specs.declared.unit_side.UnitSide.{UnitSide}
 use Rattle.av1_tiling.specs.declared.restoration_plane.RestorationPlaneConfig.{RestorationPlaneConfig}
+use Rattle.av1_tiling.specs.declared.tile_restoration_plane.TileRestorationPlane.{TileRestorationPlane}
+use Rattle.av1_tiling.specs.declared.tile_restoration_plane_mut.TileRestorationPlaneMut.{TileRestorationPlaneMut}
+use Rattle.av1_tiling.specs.Restoration.{Units}
+use Rattle.av1_tiling.specs.TileRects.{units_rect}
 
 -- the Wiener coefficients that the first units of a tile are coded against
 abbrev pub wiener_start : List (List ℤ)
@@ -95,3 +102,53 @@ unit_under v place = slice_index_or (entries_under v) (place_under v place.0 pla
 abbrev pub is_last_superblock : RestorationPlaneConfig → ℕ × ℕ → (frame : ℕ × ℕ) → (first s : SuperBlockOffset) → Bool
 is_last_superblock cfg sides frame first s =
     is_last_along (across_side cfg sides.0) frame.0 first.x s.x && is_last_along (down_side cfg sides.1) frame.1 first.y s.y
+
+-- a view with this layout of a rectangle of a table of units: its rows lie `columns` apart in these units, from the first on
+pub record ShowsUnits (layout : RestorationPlaneConfig) (units : List RestorationUnit) (columns : ℕ) (rect : TileRect) (v : TileRestorationPlane) : Type 0 where
+  pub cfg : v.rp_cfg.now ≡ layout
+  pub wiener : v.wiener_ref ≡ wiener_start
+  pub sgrproj : v.sgrproj_ref ≡ sgrproj_start
+  pub entries : view_entries v.units ≡ units
+  pub step : view_step v.units ≡ columns
+  pub x : view_x v.units ≡ rect.x
+  pub y : view_y v.units ≡ rect.y
+  pub cols : view_cols v.units ≡ rect.width
+  pub rows : view_rows v.units ≡ rect.height
+
+-- a view for writing with this layout of a window of a table of these units, row by row, with so many columns
+pub record LendsUnits (layout : RestorationPlaneConfig) (units : List RestorationUnit) (columns : ℕ) (rect : Window) (v : TileRestorationPlaneMut) : Type 0 where
+  pub cfg : v.rp_cfg.now ≡ layout
+  pub wiener : v.wiener_ref ≡ wiener_start
+  pub sgrproj : v.sgrproj_ref ≡ sgrproj_start
+  pub entries : entries_under v.units ≡ units
+  pub cols : (table_under v.units).cols ≡ columns
+  pub place : window v.units ≡ rect
+  pub placed : IsPlaced v.units
+
+-- the rectangle of a plane's units that a tile with this first superblock and so many superblocks covers
+abbrev pub tile_rect : Units → SuperBlockOffset → (superblocks : ℕ × ℕ) → TileRect
+tile_rect u sbo superblocks = units_rect (sbo.x, sbo.y) superblocks (u.cfg.sb_h_shift, u.cfg.sb_v_shift) (u.cols, u.rows)
+
+-- the tile's view of a plane's units
+abbrev pub ShowsTileUnits : Units → SuperBlockOffset → (superblocks : ℕ × ℕ) → TileRestorationPlane → Type 0
+ShowsTileUnits u sbo superblocks v =
+    let rect = tile_rect u sbo superblocks in
+    ShowsUnits u.cfg (drop (rect.y * u.cols + rect.x) u.entries) u.cols rect v
+
+-- the tile's view of a plane's units for writing
+abbrev pub LendsTileUnits : Units → SuperBlockOffset → (superblocks : ℕ × ℕ) → TileRestorationPlaneMut → Type 0
+LendsTileUnits u sbo superblocks v =
+    let rect = tile_rect u sbo superblocks in
+    LendsUnits u.cfg u.entries u.cols (frame_window rect.x rect.y rect.width rect.height u.cols u.rows) v
+
+-- what a view for writing shows for reading
+pub record IsViewOf (v : TileRestorationPlaneMut) (w : TileRestorationPlane) : Type 0 where
+  pub cfg : w.rp_cfg.now ≡ v.rp_cfg.now
+  pub wiener : w.wiener_ref ≡ v.wiener_ref
+  pub sgrproj : w.sgrproj_ref ≡ v.sgrproj_ref
+  pub entries : view_entries w.units ≡ drop (place_under v.units 0 0) (entries_under v.units)
+  pub step : view_step w.units ≡ (table_under v.units).cols
+  pub x : view_x w.units ≡ (window v.units).x
+  pub y : view_y w.units ≡ (window v.units).y
+  pub cols : view_cols w.units ≡ (window v.units).cols
+  pub rows : view_rows w.units ≡ (window v.units).rows

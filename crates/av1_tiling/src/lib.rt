@@ -25,6 +25,8 @@ mod tile_limits;
 mod tile_rects;
 mod tile_restoration_plane;
 mod tile_restoration_plane_mut;
+mod tile_restoration_state;
+mod tile_restoration_state_mut;
 mod tile_state;
 mod tiler;
 mod tiling_error;
@@ -59,6 +61,8 @@ pub use tile_context::TileContextMut;
 pub use tile_context_iter::TileContextIterMut;
 pub use tile_restoration_plane::TileRestorationPlane;
 pub use tile_restoration_plane_mut::TileRestorationPlaneMut;
+pub use tile_restoration_state::TileRestorationState;
+pub use tile_restoration_state_mut::TileRestorationStateMut;
 pub use tile_state::TileStateMut;
 pub use tiling_error::TilingError;
 pub use tiling_info::{

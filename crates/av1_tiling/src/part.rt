@@ -2,6 +2,7 @@ ghost use Rattle.std.specs.Prelude.{◌≡◌, ◌<◌, ◌^◌, IfOk, All, map}
 ghost use Rattle.av1_tiling.specs.Views.{view_plane, view_samples, view_frame, view_cuts, view_cut, view_units};
 ghost use Rattle.av1_tiling.specs.Restoration.{units_of, units_in};
 ghost use Rattle.av1_tiling.specs.TileRects.{samples_rect, motion_rect, units_rect};
+ghost use Rattle.av1_tiling.specs.UnitViews.{HasShifts};
 ghost use Rattle.av1_tiling.specs.Frames.{stored_rect, plane_part, frame_parts, motion_parts, unit_part, unit_parts, PartFits, HoldsRect, CanCutUnits};
 
 use crate::restoration_plane::RestorationPlane;
@@ -121,7 +122,7 @@ pub(crate) fn units_rect(
     sb_width: usize,
     sb_height: usize,
 ) -> TileRect
-    requires units { CanCutUnits (units_of plane.now) }
+    requires shifts { HasShifts plane.now.cfg }
     requires width { sb_width < 2 ^ 32 }
     requires height { sb_height < 2 ^ 32 }
     ensures { result ≡ units_rect (sbo.0.x, sbo.0.y) (sb_width, sb_height)
