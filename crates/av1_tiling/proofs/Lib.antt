@@ -21,5 +21,6 @@ pub mod UnitTiles
 pub mod TilePlaces
 pub mod ViewPlaces
 pub mod MadeFor
+pub mod Decided
 pub mod OtherViews
 pub mod UnitSizeFacts

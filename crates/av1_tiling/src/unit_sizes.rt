@@ -25,7 +25,8 @@ ghost use Rattle.av1_tiling.specs.UnitSizes.{
 
 use crate::frame_invariants::FrameInvariants;
 use crate::restoration::RESTORE_SWITCHABLE;
-use crate::restoration_plane::RestorationPlane;
+use crate::restoration_plane::{RestorationPlane, RestorationPlaneConfig};
+use av1_block::FrameRestorationUnits;
 use av1_plane::{OutOfMemory, Pixel};
 use std::alloc::Global;
 
@@ -275,6 +276,38 @@ fn visible_side(side: usize, dec: usize) -> usize
     }
 }
 
+/// How the units of a plane with these shifts lie.
+pub fn unit_layout<T: Pixel>(
+    fi: &FrameInvariants<T>,
+    unit: usize,
+    xdec: usize,
+    ydec: usize,
+) -> RestorationPlaneConfig
+    requires width { fi.now.width ≤ 65536 }
+    requires height { fi.now.height ≤ 65536 }
+    requires unit { unit ≤ 256 }
+    requires least_unit { 32 ≤ unit }
+    requires xdec { xdec ≤ 1 }
+    requires ydec { ydec ≤ 1 }
+    ensures layout { result ≡ unit_layout fi.now unit (xdec, ydec) }
+    ensures cols { result.cols ≤ 16384 }
+    ensures rows { result.rows ≤ 16384 }
+{
+    let superblock = superblock_log2(fi);
+    let log2 = unit_log2(unit);
+    RestorationPlaneConfig {
+        lrf_type: RESTORE_SWITCHABLE,
+        unit_size: unit,
+        sb_h_shift: log2.saturating_sub(superblock - xdec),
+        sb_v_shift: log2.saturating_sub(superblock - ydec),
+        sb_cols: fi.sb_width,
+        sb_rows: fi.sb_height,
+        stripe_height: if ydec == 0 { 64 } else { 32 },
+        cols: unit_count(unit, visible_side(fi.width, xdec)),
+        rows: unit_count(unit, visible_side(fi.height, ydec)),
+    }
+}
+
 /// The units of a plane with these shifts, all of which leave their samples as they are.
 pub fn plane_units<T: Pixel>(
     alloc: Global,
@@ -292,18 +325,7 @@ pub fn plane_units<T: Pixel>(
     ensures { IfOk result (λ made.
         units_of made ≡ blank_units (unit_layout fi.now unit (xdec, ydec))) }
 {
-    let superblock = superblock_log2(fi);
-    let log2 = unit_log2(unit);
-    RestorationPlane::new(
-        alloc,
-        RESTORE_SWITCHABLE,
-        unit,
-        log2.saturating_sub(superblock - xdec),
-        log2.saturating_sub(superblock - ydec),
-        fi.sb_width,
-        fi.sb_height,
-        ydec,
-        unit_count(unit, visible_side(fi.width, xdec)),
-        unit_count(unit, visible_side(fi.height, ydec)),
-    )
+    let cfg = unit_layout(fi, unit, xdec, ydec);
+    let units = FrameRestorationUnits::new(alloc, cfg.cols, cfg.rows)?;
+    Ok(RestorationPlane { cfg, units })
 }
