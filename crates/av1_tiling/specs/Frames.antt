@@ -25,7 +25,7 @@ use Rattle.av1_plane.specs.Area.{decimated_tile}
 use Rattle.av1_tiling.specs.FitsUnits.{FitsUnits}
 use Rattle.av1_tiling.specs.TileRects.{units_rect, superblock_columns, superblock_rows, samples_rect, motion_rect, tile_superblock, tile_luma, tile_blocks, block_columns, block_rows}
 pub use Rattle.av1_tiling.specs.Parameters.{Parameters}
-use Rattle.av1_tiling.specs.Restoration.{Units}
+use Rattle.av1_tiling.specs.Restoration.{Units, layouts_of}
 use Rattle.av1_tiling.specs.UnitSizes.{AreUnitsFor, start_units}
 use Rattle.av1_tiling.specs.Views.{PlaneView, Part, TileState, View, IsFullTable}
 
@@ -244,6 +244,7 @@ tile_state s superblock sb_size_log2 width height =
       segmentation = s.segmentation;
       rec = frame_parts s.rec (samples_rect superblock sb_size_log2 width height);
       units = unit_parts s.restoration superblock (div_ceil width side, div_ceil height side);
+      unit_layouts = layouts_of s.restoration;
       me_stats = motion_parts s.frame_me_stats (motion_rect superblock sb_size_log2 width height);
     }
 

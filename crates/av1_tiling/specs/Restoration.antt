@@ -26,7 +26,11 @@ units_of p = record { cfg = p.cfg; cols = p.units.cols; rows = p.units.rows; ent
 abbrev pub units_in : RestorationState → Three Units
 units_in s = record { y = units_of s.planes.y; u = units_of s.planes.u; v = units_of s.planes.v }
 
--- the row of units that stripe k takes: the one at the stripe's place, or the last one
+-- how the units of all planes lie
+abbrev pub layouts_of : Three Units → Three RestorationPlaneConfig
+layouts_of s = record { y = s.y.cfg; u = s.u.cfg; v = s.v.cfg }
+
+-- the row of units that stripe k takes: that of the stripe's place, or the last one
 abbrev pub unit_row : Units → ℕ → ℕ
 unit_row u k = min (k * u.cfg.stripe_height / u.cfg.unit_size) (u.rows - 1)
 

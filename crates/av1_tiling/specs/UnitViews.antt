@@ -9,7 +9,7 @@ use Rattle.av1_block.specs.RestorationUnit.{no_unit}
 use Rattle.av1_block.specs.declared.tile_view_mut.TileViewMut.{TileViewMut}
 use Rattle.av1_block.specs.declared.window.Window.{Window}
 use Rattle.av1_block.specs.Tables.{view_entries, view_step, view_x, view_y, view_cols, view_rows}
-use Rattle.av1_block.specs.Windows.{frame_window}
+use Rattle.av1_block.specs.Windows.{frame_window, cut_window}
 use Rattle.av1_block.specs.Writing.{window, table_under, entries_under, place_under, IsPlaced}
 use Rattle.av1_tiling.specs.declared.unit_side.UnitSide.{UnitSide}
 use Rattle.av1_tiling.specs.declared.restoration_plane.RestorationPlaneConfig.{RestorationPlaneConfig}
@@ -17,6 +17,7 @@ use Rattle.av1_tiling.specs.declared.tile_restoration_plane.TileRestorationPlane
 use Rattle.av1_tiling.specs.declared.tile_restoration_plane_mut.TileRestorationPlaneMut.{TileRestorationPlaneMut}
 use Rattle.av1_tiling.specs.Restoration.{Units}
 use Rattle.av1_tiling.specs.TileRects.{units_rect}
+use Rattle.av1_tiling.specs.Views.{Part, TileState}
 
 -- the Wiener coefficients that the first units of a tile are coded against
 abbrev pub wiener_start : List (List ℤ)
@@ -152,3 +153,22 @@ pub record IsViewOf (v : TileRestorationPlaneMut) (w : TileRestorationPlane) : T
   pub y : view_y w.units ≡ (window v.units).y
   pub cols : view_cols w.units ≡ (window v.units).cols
   pub rows : view_rows w.units ≡ (window v.units).rows
+
+-- the units of a tile lie in the table of a plane with this layout
+pub record LieInTable (layout : RestorationPlaneConfig) (rect : TileRect) : Type 0 where
+  pub across : rect.x + rect.width ≤ layout.cols
+  pub down : rect.y + rect.height ≤ layout.rows
+
+-- those of all planes do
+pub record HasUnitPlaces (t : TileState) : Type 0 where
+  pub y : LieInTable t.unit_layouts.y t.units.y.rect
+  pub u : LieInTable t.unit_layouts.u t.units.u.rect
+  pub v : LieInTable t.unit_layouts.v t.units.v.rect
+
+-- a view of the units that were cut out
+abbrev pub ShowsPart : RestorationPlaneConfig → Part RestorationUnit → TileRestorationPlane → Type 0
+ShowsPart layout part v = ShowsUnits layout part.entries part.rect.width part.rect v
+
+-- a view of them for writing
+abbrev pub LendsPart : RestorationPlaneConfig → Part RestorationUnit → TileRestorationPlaneMut → Type 0
+LendsPart layout part v = LendsUnits layout part.entries part.rect.width (cut_window part.rect layout.cols layout.rows) v

@@ -14,6 +14,7 @@ use Rattle.av1_block.specs.Cut.{cut_entries, cut_rect, cut_table_cols}
 use Rattle.av1_block.specs.Rows.{Rows, refilled}
 use Rattle.av1_tiling.specs.declared.deblock_state.DeblockState.{DeblockState}
 use Rattle.av1_tiling.specs.declared.segmentation_state.SegmentationState.{SegmentationState}
+use Rattle.av1_tiling.specs.declared.restoration_plane.RestorationPlaneConfig.{RestorationPlaneConfig}
 
 -- a plane: its layout and the numbers of its stored samples
 pub record PlaneView : Type 0 where
@@ -69,7 +70,8 @@ abbrev pub part_with_entries : {E : Type 0} → Part E → List E → Part E
 part_with_entries p entries = record p { entries = refilled p.entries entries }
 
 -- the part of a frame's state that one tile is coded from: the place and the sides of the tile, the input, copies of the
--- states of deblocking and segmentation, and the tile's samples, restoration units and motion records, which are put back
+-- states of deblocking and segmentation and of how restoration units lie, and the tile's samples, restoration units and
+-- motion records, which are put back
 pub record TileState : Type 0 where
   pub superblock : ℕ × ℕ
   pub sb_size_log2 : ℕ
@@ -86,6 +88,7 @@ pub record TileState : Type 0 where
   pub segmentation : SegmentationState
   pub rec : Three (Part ℤ)
   pub units : Three (Part RestorationUnit)
+  pub unit_layouts : Three RestorationPlaneConfig
   pub me_stats : List (Part MEStats)
 
 -- what one tile is coded from: its part of a frame's state, and its blocks out of a table of these sides

@@ -1,6 +1,6 @@
 //! The units of all planes of a frame.
 use crate::frame_invariants::FrameInvariants;
-use crate::restoration_plane::RestorationPlane;
+use crate::restoration_plane::{RestorationPlane, RestorationPlaneConfig};
 use crate::unit_sizes::{plane_units, unit_sizes};
 use av1_plane::{Frame, OutOfMemory, Pixel, Three};
 use std::alloc::Global;
@@ -16,7 +16,7 @@ impl RestorationState {
     ghost use Rattle.av1_plane.specs.Layout.{frame_layout};
     ghost use Rattle.av1_plane.specs.Planes.{layout_of};
     ghost use Rattle.av1_tiling.specs.Frames.{IsFrame};
-    ghost use Rattle.av1_tiling.specs.Restoration.{units_in};
+    ghost use Rattle.av1_tiling.specs.Restoration.{layouts_of, units_in};
     ghost use Rattle.av1_tiling.specs.UnitSizes.{start_units};
 
     /// The units of a frame as they start: all leave their samples as they are. Their sizes follow from the
@@ -42,7 +42,24 @@ impl RestorationState {
         })
     }
 
-    /// A copy of the units of all planes.
+    // How the units of all planes lie.
+    pub(crate) fn layouts(&self) -> Three<RestorationPlaneConfig>
+        ensures { result ≡ layouts_of (units_in self.now) }
+    {
+        Three {
+            y: RestorationPlaneConfig {
+                ..self.planes.y.cfg
+            },
+            u: RestorationPlaneConfig {
+                ..self.planes.u.cfg
+            },
+            v: RestorationPlaneConfig {
+                ..self.planes.v.cfg
+            },
+        }
+    }
+
+    /// The same units of all planes.
     pub fn try_clone(&self, alloc: Global) -> Result<RestorationState, OutOfMemory>
         ensures { IfOk result (λ copy. units_in copy ≡ units_in self.now) }
     {

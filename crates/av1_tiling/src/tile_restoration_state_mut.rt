@@ -3,13 +3,16 @@ ghost use Rattle.std.specs.Prelude.{◌≡◌, ◌<◌, ◌^◌, is_some};
 ghost use Rattle.av1_plane.specs.Three.{plane_at};
 ghost use Rattle.av1_block.specs.Writing.{IsPlaced};
 ghost use Rattle.av1_tiling.specs.Restoration.{units_of};
-ghost use Rattle.av1_tiling.specs.UnitViews.{HasShifts, IsViewOf, LendsTileUnits, unit_index, sides_under};
+ghost use Rattle.av1_block.specs.Cut.{cut_rect};
+ghost use Rattle.av1_tiling.specs.Views.{view_cut};
+ghost use Rattle.av1_tiling.specs.UnitViews.{HasShifts, IsViewOf, LendsPart, LendsTileUnits, LieInTable, unit_index, sides_under};
 
 use crate::part::units_rect;
-use crate::restoration_plane::RestorationPlane;
+use crate::restoration_plane::{RestorationPlane, RestorationPlaneConfig};
 use crate::restoration_state::RestorationState;
 use crate::tile_restoration_plane_mut::TileRestorationPlaneMut;
 use crate::tile_restoration_state::TileRestorationState;
+use av1_block::{Cut, RestorationUnit};
 use av1_plane::{PlaneSuperBlockOffset, Three, TileSuperBlockOffset};
 
 /// A tile's units of all planes, for reading and writing.
@@ -43,6 +46,27 @@ impl<'a> TileRestorationStateMut<'a> {
         let y = tile_units(y, sbo, sb_width, sb_height);
         let u = tile_units(u, sbo, sb_width, sb_height);
         let v = tile_units(v, sbo, sb_width, sb_height);
+        TileRestorationStateMut {
+            planes: Three { y, u, v },
+        }
+    }
+
+    // The units that a tile owns, out of tables that are laid out so.
+    pub(crate) fn of_cuts(
+        layouts: &'a Three<RestorationPlaneConfig>,
+        units: &'a mut Three<Cut<RestorationUnit>>,
+    ) -> TileRestorationStateMut<'a>
+        requires y_lie { LieInTable layouts.now.y (cut_rect units.old.y) }
+        requires u_lie { LieInTable layouts.now.u (cut_rect units.old.u) }
+        requires v_lie { LieInTable layouts.now.v (cut_rect units.old.v) }
+        ensures y { LendsPart layouts.now.y (view_cut units.old.y) result.planes.y }
+        ensures u { LendsPart layouts.now.u (view_cut units.old.u) result.planes.u }
+        ensures v { LendsPart layouts.now.v (view_cut units.old.v) result.planes.v }
+    {
+        let Three { y, u, v } = units;
+        let y = TileRestorationPlaneMut::of_cut(&layouts.y, y);
+        let u = TileRestorationPlaneMut::of_cut(&layouts.u, u);
+        let v = TileRestorationPlaneMut::of_cut(&layouts.v, v);
         TileRestorationStateMut {
             planes: Three { y, u, v },
         }

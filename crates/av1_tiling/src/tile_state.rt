@@ -2,8 +2,12 @@ use crate::deblock_state::DeblockState;
 use crate::frame_state::FrameState;
 use crate::part::{cut_frame, cut_motion, cut_units, motion_rect, samples_rect};
 use crate::putting::{put_frame, put_motion, put_units};
+use crate::restoration_plane::RestorationPlaneConfig;
 use crate::restoration_state::RestorationState;
 use crate::segmentation_state::SegmentationState;
+use crate::tile_restoration_plane::TileRestorationPlane;
+use crate::tile_restoration_state::TileRestorationState;
+use crate::tile_restoration_state_mut::TileRestorationStateMut;
 use av1_block::{Cut, FrameMEStats, MEStats, RestorationUnit};
 use av1_plane::{Frame, OutOfMemory, Pixel, Plane, PlaneSuperBlockOffset, Three, TileRect};
 use std::alloc::Global;
@@ -34,6 +38,7 @@ pub struct TileStateMut<T: Pixel> {
     pub segmentation: SegmentationState,
     rec: Three<Cut<T>>,
     units: Three<Cut<RestorationUnit>>,
+    unit_layouts: Three<RestorationPlaneConfig>,
     me_stats: Vec<Cut<MEStats>>,
 }
 
@@ -60,6 +65,7 @@ impl<T: Pixel> Model for TileStateMut<T> {
       segmentation = t.segmentation;
       rec = view_cuts T.number t.rec;
       units = view_units t.units;
+      unit_layouts = t.unit_layouts;
       me_stats = map view_cut t.me_stats.items;
     } };
 }
@@ -168,6 +174,37 @@ impl<T: Pixel> TileStateMut<T> {
     }
 }
 
+impl<T: Pixel> TileStateMut<T> {
+    ghost use Rattle.av1_tiling.specs.UnitViews.{HasUnitPlaces, ShowsPart, LendsPart};
+
+    /// The tile's restoration units, at their places in the frame's tables, where they lie.
+    pub fn restoration(&self) -> TileRestorationState<'_>
+        requires { HasUnitPlaces self.now }
+        ensures y { ShowsPart self.now.unit_layouts.y self.now.units.y result.planes.y }
+        ensures u { ShowsPart self.now.unit_layouts.u self.now.units.u result.planes.u }
+        ensures v { ShowsPart self.now.unit_layouts.v self.now.units.v result.planes.v }
+    {
+        TileRestorationState {
+            planes: Three {
+                y: TileRestorationPlane::of_cut(&self.unit_layouts.y, &self.units.y),
+                u: TileRestorationPlane::of_cut(&self.unit_layouts.u, &self.units.u),
+                v: TileRestorationPlane::of_cut(&self.unit_layouts.v, &self.units.v),
+            },
+        }
+    }
+
+    /// The tile's restoration units for writing, at their places in the frame's tables, where they
+    /// lie. What the tile has after a write is said by `units_mut` alone.
+    pub fn restoration_mut(&mut self) -> TileRestorationStateMut<'_>
+        requires { HasUnitPlaces self.old }
+        ensures y { LendsPart self.old.unit_layouts.y self.old.units.y result.planes.y }
+        ensures u { LendsPart self.old.unit_layouts.u self.old.units.u result.planes.u }
+        ensures v { LendsPart self.old.unit_layouts.v self.old.units.v result.planes.v }
+    {
+        TileRestorationStateMut::of_cuts(&self.unit_layouts, &mut self.units)
+    }
+}
+
 #[tactic(auto, using(crate::proofs::Fits::fits))]
 impl<T: Pixel> TileStateMut<T> {
     ghost use Rattle.std.specs.Prelude.{◌≡◌, IfOk};
@@ -210,6 +247,7 @@ impl<T: Pixel> TileStateMut<T> {
             segmentation: fs.segmentation,
             rec,
             units,
+            unit_layouts: fs.restoration.layouts(),
             me_stats,
         })
     }
