@@ -71,7 +71,8 @@ pub fn has_no_sample(cfg: &PlaneConfig) -> bool
     cfg.width == 0 || cfg.height == 0
 }
 
-// All edges of one direction.
+// All edges of one direction. Inlined, so that the walk is compiled for each direction by itself.
+#[inline(always)]
 fn filter_direction<T: Pixel>(
     deblock: &DeblockState,
     p: &mut PlaneRegionMut<'_, T>,
@@ -110,6 +111,7 @@ fn filter_direction<T: Pixel>(
     filter_edges(p, &pass, blocks);
 }
 
+#[inline(always)]
 #[tactic(auto, using(crate::proofs::Planes::passes))]
 fn filter_plane<T: Pixel>(
     deblock: &DeblockState,
@@ -170,7 +172,13 @@ pub fn deblock_plane<T: Pixel>(
         (blocks_in blocks.now) (raster_under bd T.number p.old) }
     ensures range { HasDepth bd crop_w crop_h T.number p.new }
 {
-    if is_filtered(deblock, pli) && !has_no_sample(&p.plane_cfg) {
+    if !is_filtered(deblock, pli) || has_no_sample(&p.plane_cfg) {
+        return;
+    }
+    // Luma and chroma are walked by themselves too, so that no place asks which plane it is in.
+    if pli == 0 {
+        filter_plane(deblock, p, 0, blocks, crop_w, crop_h, bd);
+    } else {
         filter_plane(deblock, p, pli, blocks, crop_w, crop_h, bd);
     }
 }

@@ -218,7 +218,8 @@ fn add_row<T: Pixel>(
     add_between(entries, rec, src, g, &rows, bd, v);
 }
 
-// Adds the errors of all edges of one direction.
+// Those of all edges of one direction.
+#[inline(always)]
 fn add_edges<T: Pixel>(
     entries: &mut [i64],
     rec: &PlaneRegion<'_, T>,
@@ -259,7 +260,8 @@ pub fn clear(entries: &mut [i64])
     }
 }
 
-// The tally of one direction.
+// The tally of one direction. Inlined, so that the walk is compiled for each direction by itself.
+#[inline(always)]
 #[tactic(auto, using(crate::proofs::Walks::planes))]
 fn tally_direction<T: Pixel>(
     entries: &mut [i64],
