@@ -16,6 +16,7 @@ pub mod GeneratedRows
 pub mod Depths
 pub mod FirstValues
 pub mod BlockPlaces
+pub mod BandFacts
 pub mod UnitPlaces
 pub mod RecordedRows
 pub mod RecordedEntries

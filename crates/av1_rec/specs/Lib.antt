@@ -19,6 +19,7 @@ pub mod Report
 pub mod Summary
 pub mod GridText
 pub mod BlockTable
+pub mod Bands
 pub mod Recorded
 pub mod Picture
 pub mod Begin

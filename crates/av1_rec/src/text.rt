@@ -19,6 +19,7 @@ ghost use Rattle.av1_tiling.specs.Frames.{FitsDepth};
 ghost use Rattle.av1_tiling.specs.UnitSizes.{unit_layouts};
 ghost use Rattle.av1_rec.specs.Text.{tiling, HasTiling, tiled_header, is_wide, chroma_picture, source_rows, luma_of, chroma_of, tile_shape, tile_at, tiles, end, body, text_of, said, frame_said};
 
+pub(crate) mod block_bands;
 pub(crate) mod block_line;
 pub(crate) mod block_table;
 pub(crate) mod extent;

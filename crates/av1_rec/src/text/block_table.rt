@@ -1,59 +1,58 @@
-ghost use Rattle.std.specs.Prelude.{◌≡◌, ℕ, ◌+◌, ◌*◌, ◌<◌, ◌≤◌, length, slice_index_or, if◌then◌else◌, nat_le, nat_lt, ◌&&◌, IfOk};
-ghost use Rattle.av1_block.specs.Block.{default_block};
-ghost use Rattle.av1_block.specs.Tables.{entry_at};
-ghost use Rattle.av1_rec.specs.BlockTable.{holds, block_after, blocks_said};
+ghost use Rattle.std.specs.Prelude.{◌≡◌, ℕ, ◌*◌, ◌≤◌, map, length, slice_index_or, IfOk};
+ghost use Rattle.av1_rec.specs.Bands.{block_of};
+ghost use Rattle.av1_rec.specs.BlockTable.{blocks_said};
 
+use crate::text::block_bands::raise_all;
 use crate::text::block_line::BlockLine;
 use av1_block::Block;
 use std::alloc::{AllocError, Global};
 
-// Writes a block to the places from `from` up to `to`.
-fn fill(blocks: &mut [Block], from: usize, to: usize, block: Block)
-    requires ordered { from ≤ to }
-    requires inside { to ≤ length blocks.old }
-    ensures { (i : ℕ) → slice_index_or blocks.new i default_block
-        ≡ (if nat_le from i && nat_lt i to then block
-        else slice_index_or blocks.old i default_block) }
+// The block of the line with this number, counted from 1, and the default block for 0.
+#[tactic(auto, unfolding(crate::specs::Bands::block_of, crate::specs::Bands::no_line))]
+fn block_of(lines: &[BlockLine], number: usize) -> Block
+    ensures { result ≡ block_of lines.now number }
 {
-    for i in from..to {
-        blocks[i] = block;
+    if number == 0 || number > lines.len() {
+        return Block::default();
     }
+    lines[number - 1].block
 }
 
-// Writes a line's block to its rectangle, cut to the table.
-#[tactic(auto, using(crate::proofs::BlockPlaces::row_written))]
-fn write_line(blocks: &mut [Block], cols: usize, rows: usize, line: BlockLine)
-    requires table { length blocks.old ≡ cols * rows }
-    requires cols { cols ≤ 16384 }
-    requires rows { rows ≤ 16384 }
-    ensures { (x y : ℕ) → x < cols → y < rows → entry_at blocks.new cols x y
-        ≡ (if holds line x y then line.block else entry_at blocks.old cols x y) }
+fn blocks_of(
+    alloc: Global,
+    lines: &[BlockLine],
+    numbers: &[usize],
+) -> Result<Vec<Block>, AllocError>
+    ensures { IfOk result (λ blocks. blocks.items ≡ map (λ n. block_of lines.now n) numbers.now) }
 {
-    let right = (line.x as usize + line.cols as usize).min(cols);
-    let left = (line.x as usize).min(right);
-    let bottom = (line.y as usize + line.rows as usize).min(rows);
-    let top = (line.y as usize).min(bottom);
-    for y in top..bottom {
-        fill(blocks, y * cols + left, y * cols + right, line.block);
+    let mut blocks = Vec::with_capacity(alloc, numbers.len())?;
+    for number in numbers {
+        blocks.push(block_of(lines, *number))?;
     }
+    Ok(blocks)
 }
 
-// Writes all lines to a table of default blocks.
-fn write_lines(blocks: &mut [Block], cols: usize, rows: usize, lines: &[BlockLine])
-    requires table { length blocks.old ≡ cols * rows }
+// The blocks of a tile, where there is a 0 for each.
+fn blocks_from(
+    alloc: Global,
+    numbers: &mut [usize],
+    cols: usize,
+    rows: usize,
+    lines: &[BlockLine],
+) -> Result<Vec<Block>, AllocError>
+    requires table { length numbers.old ≡ cols * rows }
     requires cols { cols ≤ 16384 }
     requires rows { rows ≤ 16384 }
-    requires fresh { (i : ℕ) → slice_index_or blocks.old i default_block ≡ default_block }
-    ensures { blocks.new ≡ blocks_said cols rows lines.now }
+    requires fresh { (i : ℕ) → slice_index_or numbers.old i 0 ≡ 0 }
+    ensures { IfOk result (λ blocks. blocks.items ≡ blocks_said cols rows lines.now) }
 {
-    for line in lines {
-        write_line(blocks, cols, rows, *line);
-    }
+    raise_all(alloc, numbers, cols, rows, lines)?;
+    let blocks = blocks_of(alloc, lines, numbers)?;
+    Ok(blocks)
 }
 
 /// The blocks of a tile of these sides, row by row, at most 16384 each way: default blocks, in which
 /// each line's rectangle is written in order, later lines over earlier ones.
-#[tactic(auto, using(crate::proofs::BlockPlaces::fresh))]
 pub fn blocks_said(
     alloc: Global,
     cols: usize,
@@ -64,7 +63,6 @@ pub fn blocks_said(
     requires rows { rows ≤ 16384 }
     ensures { IfOk result (λ blocks. blocks.items ≡ blocks_said cols rows lines.now) }
 {
-    let mut blocks = vec![in alloc; Block::default(); cols * rows]?;
-    write_lines(&mut blocks, cols, rows, lines);
-    Ok(blocks)
+    let mut numbers = vec![in alloc; 0usize; cols * rows]?;
+    blocks_from(alloc, &mut numbers, cols, rows, lines)
 }
