@@ -10,7 +10,7 @@ use Rattle.av1_plane.specs.declared.sampling.ChromaSampling.TheVariants.{Cs420, 
 use Rattle.av1_plane.specs.declared.tile_rect.TileRect.{TileRect}
 use Rattle.av1_tiling.specs.Grid.{round_up, IsBuiltSide}
 use Rattle.av1_tiling.specs.TileRects.{samples_rect, motion_rect}
-use Rattle.av1_tiling.specs.Frames.{State, PartFits, LiesInFrame, HoldsRect, no_rect}
+use Rattle.av1_tiling.specs.Frames.{State, AreMotionTables, PartFits, LiesInFrame, HoldsRect, no_rect}
 use Rattle.av1_tiling.specs.Views.{PlaneView}
 use Rattle.av1_plane.specs.declared.three.Three.{Three}
 
@@ -117,5 +117,19 @@ module _ (state : State) (superblock : ℕ × ℕ) (s width height : ℕ) (lies 
       let wide = lies_64.wide in
       let high = lies_64.high in
       record { across = omega arith; down = omega arith })
+
+  -- the sides of the tables of motion records are those of the luma plane
+  luma_layout : (P : PlaneConfig → Type 0) → P (frame_layout lies_64.frame_width lies_64.frame_height lies_64.sampling).y → P state.rec.y.cfg
+  luma_layout P holds = subst P (sym (ap (λ (t : Three PlaneConfig). t.y) lies_64.layout)) holds
+
+  pub motion_sides : AreMotionTables (state.rec.y.cfg.width / 4) (state.rec.y.cfg.height / 4) state.frame_me_stats
+  motion_sides = luma_layout (λ cfg. AreMotionTables (cfg.width / 4) (cfg.height / 4) state.frame_me_stats) lies_64.motion
+
+  -- the tile's motion records lie in tables of these sides
+  pub motion_across : (motion_rect superblock 6 width height).x + (motion_rect superblock 6 width height).width ≤ state.rec.y.cfg.width / 4
+  motion_across = luma_layout (λ cfg. (motion_rect superblock 6 width height).x + (motion_rect superblock 6 width height).width ≤ cfg.width / 4) (let wide = lies_64.wide in omega arith)
+
+  pub motion_down : (motion_rect superblock 6 width height).y + (motion_rect superblock 6 width height).height ≤ state.rec.y.cfg.height / 4
+  motion_down = luma_layout (λ cfg. (motion_rect superblock 6 width height).y + (motion_rect superblock 6 width height).height ≤ cfg.height / 4) (let high = lies_64.high in omega arith)
 
 pub ruleset fits = (fits_y, fits_u, fits_v, small_x, small_y, small_width, small_height)

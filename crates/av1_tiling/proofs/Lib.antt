@@ -19,6 +19,7 @@ pub mod UnitPlaces
 pub mod UnitAlign
 pub mod UnitTiles
 pub mod TilePlaces
+pub mod TileMotions
 pub mod ViewPlaces
 pub mod MadeFor
 pub mod Decided

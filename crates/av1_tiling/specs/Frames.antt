@@ -27,6 +27,7 @@ use Rattle.av1_tiling.specs.TileRects.{units_rect, superblock_columns, superbloc
 pub use Rattle.av1_tiling.specs.Parameters.{Parameters}
 use Rattle.av1_tiling.specs.Restoration.{Units, layouts_of}
 use Rattle.av1_tiling.specs.UnitSizes.{AreUnitsFor, start_units}
+use Rattle.av1_tiling.specs.declared.part_place.PartPlace.{PartPlace}
 use Rattle.av1_tiling.specs.Views.{PlaneView, Part, TileState, View, IsFullTable}
 
 -- what changes while a frame is coded
@@ -172,6 +173,16 @@ plane_part p luma = part_at p.samples p.cfg.stride (stored_rect p.cfg luma)
 abbrev pub frame_parts : Three PlaneView → TileRect → Three (Part ℤ)
 frame_parts f luma = record { y = plane_part f.y luma; u = plane_part f.u luma; v = plane_part f.v luma }
 
+-- where the part of a plane that a rectangle of luma samples covers stands; at the origin of an empty plane
+abbrev pub part_place : PlaneConfig → TileRect → PartPlace
+part_place cfg luma =
+    if (cfg.width == 0) || (cfg.height == 0) then record { cfg = cfg; x = pos 0; y = pos 0 }
+    else (let rect = decimated_tile luma cfg.xdec cfg.ydec in record { cfg = cfg; x = pos rect.x; y = pos rect.y })
+
+-- the places of all planes' parts
+abbrev pub part_places : Three PlaneView → TileRect → Three PartPlace
+part_places f luma = record { y = part_place f.y.cfg luma; u = part_place f.u.cfg luma; v = part_place f.v.cfg luma }
+
 -- a rectangle of each table of motion records, cut out
 abbrev pub motion_parts : List (Rows MEStats) → TileRect → List (Part MEStats)
 motion_parts tables rect = map (λ t. part_at t.entries t.cols rect) tables
@@ -243,9 +254,12 @@ tile_state s superblock sb_size_log2 width height =
       deblock = s.deblock;
       segmentation = s.segmentation;
       rec = frame_parts s.rec (samples_rect superblock sb_size_log2 width height);
+      places = part_places s.rec (samples_rect superblock sb_size_log2 width height);
       units = unit_parts s.restoration superblock (div_ceil width side, div_ceil height side);
       unit_layouts = layouts_of s.restoration;
       me_stats = motion_parts s.frame_me_stats (motion_rect superblock sb_size_log2 width height);
+      mi_cols = s.rec.y.cfg.width / 4;
+      mi_rows = s.rec.y.cfg.height / 4;
     }
 
 -- the starting view of tile n: what the state and the block table hold inside its rectangles

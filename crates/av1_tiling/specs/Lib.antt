@@ -13,6 +13,7 @@ pub mod Partition
 pub mod Puts
 pub mod Coded
 pub mod Tiles
+pub mod TileViews
 pub mod SgrSets
 pub mod Restoration
 pub mod UnitSizes

@@ -15,6 +15,7 @@ use Rattle.av1_block.specs.Rows.{Rows, refilled}
 use Rattle.av1_tiling.specs.declared.deblock_state.DeblockState.{DeblockState}
 use Rattle.av1_tiling.specs.declared.segmentation_state.SegmentationState.{SegmentationState}
 use Rattle.av1_tiling.specs.declared.restoration_plane.RestorationPlaneConfig.{RestorationPlaneConfig}
+use Rattle.av1_tiling.specs.declared.part_place.PartPlace.{PartPlace}
 
 -- a plane: its layout and the numbers of its stored samples
 pub record PlaneView : Type 0 where
@@ -71,7 +72,8 @@ part_with_entries p entries = record p { entries = refilled p.entries entries }
 
 -- the part of a frame's state that one tile is coded from: the place and the sides of the tile, the input, copies of the
 -- states of deblocking and segmentation and of how restoration units lie, and the tile's samples, restoration units and
--- motion records, which are put back
+-- motion records, which are put back, with the places of the samples in the frame's planes and the sides of the tables
+-- of motion records
 pub record TileState : Type 0 where
   pub superblock : ℕ × ℕ
   pub sb_size_log2 : ℕ
@@ -87,9 +89,12 @@ pub record TileState : Type 0 where
   pub deblock : DeblockState
   pub segmentation : SegmentationState
   pub rec : Three (Part ℤ)
+  pub places : Three PartPlace
   pub units : Three (Part RestorationUnit)
   pub unit_layouts : Three RestorationPlaneConfig
   pub me_stats : List (Part MEStats)
+  pub mi_cols : ℕ
+  pub mi_rows : ℕ
 
 -- what one tile is coded from: its part of a frame's state, and its blocks out of a table of these sides
 pub record View : Type 0 where

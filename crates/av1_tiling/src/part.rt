@@ -3,13 +3,14 @@ ghost use Rattle.av1_tiling.specs.Views.{view_plane, view_samples, view_frame, v
 ghost use Rattle.av1_tiling.specs.Restoration.{units_of, units_in};
 ghost use Rattle.av1_tiling.specs.TileRects.{samples_rect, motion_rect, units_rect};
 ghost use Rattle.av1_tiling.specs.UnitViews.{HasShifts};
-ghost use Rattle.av1_tiling.specs.Frames.{stored_rect, plane_part, frame_parts, motion_parts, unit_part, unit_parts, PartFits, HoldsRect, CanCutUnits};
+ghost use Rattle.av1_tiling.specs.Frames.{stored_rect, plane_part, frame_parts, part_place, part_places, motion_parts, unit_part, unit_parts, PartFits, HoldsRect, CanCutUnits};
 
+use crate::part_place::PartPlace;
 use crate::restoration_plane::RestorationPlane;
 use crate::restoration_state::RestorationState;
 use av1_block::{Cut, FrameMEStats, MEStats, RestorationUnit};
 use av1_plane::{
-    Frame, OutOfMemory, Pixel, Plane, PlaneConfig, PlaneSuperBlockOffset, Three, TileRect,
+    Frame, OutOfMemory, Pixel, Plane, PlaneConfig, PlaneSuperBlockOffset, Rect, Three, TileRect,
 };
 use std::alloc::Global;
 
@@ -96,6 +97,36 @@ pub(crate) fn cut_frame<T: Pixel>(
         u: cut_plane(alloc, &frame.planes.u, luma)?,
         v: cut_plane(alloc, &frame.planes.v, luma)?,
     })
+}
+
+// Where the part of a plane that a rectangle of luma samples covers stands.
+fn part_place(cfg: &PlaneConfig, luma: TileRect) -> PartPlace
+    requires { PartFits cfg.now luma }
+    ensures { result ≡ part_place cfg.now luma }
+{
+    if cfg.width == 0 || cfg.height == 0 {
+        return PartPlace {
+            cfg: *cfg,
+            x: 0,
+            y: 0,
+        };
+    }
+    let Rect { x, y, .. } = luma.decimated(cfg.xdec, cfg.ydec).into();
+    PartPlace { cfg: *cfg, x, y }
+}
+
+/// Where the parts of a frame's planes stand that a rectangle of luma samples covers.
+pub(crate) fn part_places<T: Pixel>(frame: &Frame<T>, luma: TileRect) -> Three<PartPlace>
+    requires y { PartFits frame.now.planes.y.cfg luma }
+    requires u { PartFits frame.now.planes.u.cfg luma }
+    requires v { PartFits frame.now.planes.v.cfg luma }
+    ensures { result ≡ part_places (view_frame T.number frame.now) luma }
+{
+    Three {
+        y: part_place(&frame.planes.y.cfg, luma),
+        u: part_place(&frame.planes.u.cfg, luma),
+        v: part_place(&frame.planes.v.cfg, luma),
+    }
 }
 
 /// The parts of tables of motion records that a rectangle covers.

@@ -1,10 +1,13 @@
+ghost use Rattle.std.specs.Prelude.{◌+◌, ◌≤◌};
+ghost use Rattle.av1_block.specs.Cut.{cut_rect};
+
 use crate::frame_state::FrameState;
 use crate::putting::put_table;
 use crate::restoration_state::RestorationState;
 use crate::tile_rects::{tile_blocks, tile_height, tile_superblock, tile_width};
 use crate::tile_state::TileStateMut;
 use crate::tiling_info::TilingInfo;
-use av1_block::{Block, Cut, FrameBlocks, FrameMEStats};
+use av1_block::{Block, Cut, FrameBlocks, FrameMEStats, TileBlocks};
 use av1_plane::{Frame, OutOfMemory, Pixel};
 use std::alloc::Global;
 use std::marker::Model;
@@ -16,6 +19,8 @@ pub struct TileContextMut<T: Pixel> {
     blocks: Cut<Block>,
     frame_cols: usize,
     frame_rows: usize,
+    ghost across: { (cut_rect blocks).x + (cut_rect blocks).width ≤ frame_cols },
+    ghost down: { (cut_rect blocks).y + (cut_rect blocks).height ≤ frame_rows },
 }
 
 impl<T: Pixel> Model for TileContextMut<T> {
@@ -52,6 +57,17 @@ impl<T: Pixel> TileContextMut<T> {
         ensures value { result.now ≡ self.old.blocks.entries }
     {
         self.blocks.entries_mut()
+    }
+}
+
+impl<T: Pixel> TileContextMut<T> {
+    ghost use Rattle.av1_tiling.specs.TileViews.{ShowsTablePart};
+
+    /// The tile's part of the frame's blocks.
+    pub fn tb(&self) -> TileBlocks<'_>
+        ensures { ShowsTablePart self.now.blocks self.now.frame_cols self.now.frame_rows result }
+    {
+        TileBlocks::from_cut(&self.blocks, self.frame_cols, self.frame_rows)
     }
 }
 

@@ -1,18 +1,22 @@
 use crate::deblock_state::DeblockState;
 use crate::frame_state::FrameState;
-use crate::part::{cut_frame, cut_motion, cut_units, motion_rect, samples_rect};
+use crate::part::{cut_frame, cut_units, motion_rect, part_places, samples_rect};
+use crate::part_place::PartPlace;
 use crate::putting::{put_frame, put_motion, put_units};
 use crate::restoration_plane::RestorationPlaneConfig;
 use crate::restoration_state::RestorationState;
 use crate::segmentation_state::SegmentationState;
+use crate::tile_motion::TileMotion;
 use crate::tile_restoration_plane::TileRestorationPlane;
 use crate::tile_restoration_state::TileRestorationState;
 use crate::tile_restoration_state_mut::TileRestorationStateMut;
-use av1_block::{Cut, FrameMEStats, MEStats, RestorationUnit};
+use av1_block::{Cut, FrameMEStats, RestorationUnit};
 use av1_plane::{Frame, OutOfMemory, Pixel, Plane, PlaneSuperBlockOffset, Three, TileRect};
 use std::alloc::Global;
 use std::marker::Model;
 use std::sync::Arc;
+
+mod views;
 
 /// What a tile is coded from, beside its blocks: its place and sides, the whole input, and the
 /// tile's parts of the reconstruction, of the restoration units and of the motion records, which it
@@ -37,9 +41,10 @@ pub struct TileStateMut<T: Pixel> {
     pub deblock: DeblockState,
     pub segmentation: SegmentationState,
     rec: Three<Cut<T>>,
+    places: Three<PartPlace>,
     units: Three<Cut<RestorationUnit>>,
     unit_layouts: Three<RestorationPlaneConfig>,
-    me_stats: Vec<Cut<MEStats>>,
+    me_stats: TileMotion,
 }
 
 impl<T: Pixel> Model for TileStateMut<T> {
@@ -64,9 +69,12 @@ impl<T: Pixel> Model for TileStateMut<T> {
       deblock = t.deblock;
       segmentation = t.segmentation;
       rec = view_cuts T.number t.rec;
+      places = t.places;
       units = view_units t.units;
       unit_layouts = t.unit_layouts;
-      me_stats = map view_cut t.me_stats.items;
+      me_stats = map view_cut t.me_stats.cuts.items;
+      mi_cols = t.me_stats.mi_cols;
+      mi_rows = t.me_stats.mi_rows;
     } };
 }
 
@@ -226,11 +234,19 @@ impl<T: Pixel> TileStateMut<T> {
         ensures { IfOk result (λ made.
             made ≡ tile_state fs.now (sbo.0.x, sbo.0.y) sb_size_log2 width height) }
     {
-        let rec = cut_frame(alloc, &fs.rec, samples_rect(sbo, width, height))?;
+        let luma = samples_rect(sbo, width, height);
+        let rec = cut_frame(alloc, &fs.rec, luma)?;
         let sb_width = width.div_ceil(64);
         let sb_height = height.div_ceil(64);
         let units = cut_units(alloc, &fs.restoration, sbo, sb_width, sb_height)?;
-        let me_stats = cut_motion(alloc, &fs.frame_me_stats, motion_rect(sbo, width, height))?;
+        let luma_cfg = &fs.rec.planes.y.cfg;
+        let me_stats = TileMotion::take(
+            alloc,
+            &fs.frame_me_stats,
+            motion_rect(sbo, width, height),
+            luma_cfg.width / 4,
+            luma_cfg.height / 4,
+        )?;
         Ok(TileStateMut {
             sbo,
             sb_size_log2,
@@ -246,6 +262,7 @@ impl<T: Pixel> TileStateMut<T> {
             deblock: fs.deblock,
             segmentation: fs.segmentation,
             rec,
+            places: part_places(&fs.rec, luma),
             units,
             unit_layouts: fs.restoration.layouts(),
             me_stats,
@@ -283,6 +300,6 @@ impl<T: Pixel> TileStateMut<T> {
     {
         put_frame(rec, &self.rec);
         put_units(units, &self.units);
-        put_motion(me, &self.me_stats);
+        put_motion(me, &self.me_stats.cuts);
     }
 }

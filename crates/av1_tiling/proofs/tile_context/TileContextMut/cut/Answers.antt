@@ -1,5 +1,6 @@
 use Rattle.std.proofs.Common.{◌≡◌, ℕ, ◌+◌, ◌-◌, ◌*◌, ◌≤◌, length, min, arith, sym, subst, ap, ◌∙◌}
 use Rattle.std.proofs.Math.Nat.{mul-le-mul_right}
+use Rattle.av1_plane.specs.declared.tile_rect.TileRect.{TileRect}
 use Rattle.av1_block.specs.Tables.{table_entries}
 use Rattle.av1_block.specs.declared.block.Block.{Block}
 use Rattle.av1_block.specs.Rows.{Rows}
@@ -93,3 +94,20 @@ returns g c =
       frame_cols = wide i;
       frame_rows = high i;
     }
+
+pub invariant_of-result : goal.invariant_of-result
+invariant_of-result g c =
+    let p = placed _ _ _ _ c.requires.made_for _ c.requires.tile in
+    let sx = ap (λ s. s.0) c.tile_superblock-sbo.ensures in
+    let sy = ap (λ s. s.1) c.tile_superblock-sbo.ensures in
+    let e = c.tile_blocks.ensures in
+    let table = c.args.fb.now in
+    let rect = sym c.in_ok-blocks.ensures.place in
+    let across : c.tile_blocks.result.x + c.tile_blocks.result.width ≤ table.cols = rw (e.x, e.width, sx) p.across in
+    let down : c.tile_blocks.result.y + c.tile_blocks.result.height ≤ table.rows = rw (e.y, e.height, sy) p.down in
+    let wide : table.cols ≡ c.fb.inside.cols = sym (ap (λ (r : Rows Block). r.cols) c.fb.view_is) in
+    let high : table.rows ≡ c.fb.inside.rows = sym (ap (λ (r : Rows Block). r.rows) c.fb.view_is) in
+    let blocks = c.in_ok-blocks.blocks in (
+      subst (λ (n : ℕ). (cut_rect blocks).x + (cut_rect blocks).width ≤ n) wide (subst (λ (r : TileRect). r.x + r.width ≤ table.cols) rect across),
+      (subst (λ (n : ℕ). (cut_rect blocks).y + (cut_rect blocks).height ≤ n) high (subst (λ (r : TileRect). r.y + r.height ≤ table.rows) rect down), tt),
+    )

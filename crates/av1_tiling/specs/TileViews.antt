@@ -1,0 +1,90 @@
+-- What a tile's state and its context lend: each part at its place in the frame.
+use Rattle.std.specs.Prelude.{ℕ, ℤ, ◌≡◌, ◌-◌, ◌*◌, ◌^◌, ◌<◌, List, drop}
+use Rattle.std.specs.List.{slice_index_or}
+use Rattle.av1_plane.specs.declared.three.Three.{Three}
+use Rattle.av1_plane.specs.declared.plane.PlaneConfig.{PlaneConfig}
+use Rattle.av1_plane.specs.declared.region.Rect.{Rect}
+use Rattle.av1_plane.specs.declared.region.PlaneRegion.{PlaneRegion}
+use Rattle.av1_plane.specs.declared.tile.Tile.{Tile}
+use Rattle.av1_plane.specs.declared.tile_rect.TileRect.{TileRect}
+use Rattle.av1_plane.specs.declared.offset.BlockOffset.{BlockOffset}
+use Rattle.av1_plane.specs.declared.offset.SuperBlockOffset.{SuperBlockOffset}
+use Rattle.av1_plane.specs.Place.{rect_start, no_area}
+use Rattle.av1_plane.specs.Reading.{numbers_seen, step_seen, area_seen}
+use Rattle.av1_plane.specs.Regions.{StoresRect}
+use Rattle.av1_block.specs.declared.me_stats.MEStats.{MEStats}
+use Rattle.av1_block.specs.declared.tile_view.TileView.{TileView}
+use Rattle.av1_block.specs.Tables.{view_entries, view_step, view_x, view_y, view_cols, view_rows, view_frame_cols, view_frame_rows}
+use Rattle.av1_tiling.specs.declared.part_place.PartPlace.{PartPlace}
+use Rattle.av1_tiling.specs.Views.{PlaneView, Part, TileState}
+use Rattle.av1_tiling.specs.Coded.{no_part}
+
+-- the rectangle of a part of a plane, from the plane's origin
+abbrev pub part_area : PartPlace → Part ℤ → Rect
+part_area place part = record { x = place.x; y = place.y; width = part.rect.width; height = part.rect.height }
+
+-- a region shows a part of a plane
+pub record ShowsPart {X : Type 0} (number : X → ℤ) (place : PartPlace) (part : Part ℤ) (r : PlaneRegion X) : Type 0 where
+  pub samples : numbers_seen number r ≡ part.entries
+  pub step : step_seen r ≡ part.rect.width
+  pub cfg : r.plane_cfg.now ≡ place.cfg
+  pub area : area_seen r ≡ part_area place part
+
+-- a tile shows the parts of three planes
+pub record ShowsParts {X : Type 0} (number : X → ℤ) (t : TileState) (tile : Tile X) : Type 0 where
+  pub y : ShowsPart number t.places.y t.rec.y tile.planes.y
+  pub u : ShowsPart number t.places.u t.rec.u tile.planes.u
+  pub v : ShowsPart number t.places.v t.rec.v tile.planes.v
+
+-- a region shows a rectangle of a plane, and nothing where the plane has a side of 0
+pub record ShowsStored {X : Type 0} (number : X → ℤ) (plane : PlaneView) (rect : Rect) (r : PlaneRegion X) : Type 0 where
+  pub samples : 0 < plane.cfg.width → 0 < plane.cfg.height → numbers_seen number r ≡ drop (rect_start plane.cfg rect) plane.samples
+  pub step : step_seen r ≡ plane.cfg.stride
+  pub cfg : r.plane_cfg.now ≡ plane.cfg
+  pub area : 0 < plane.cfg.width → 0 < plane.cfg.height → area_seen r ≡ rect
+  pub no_width : plane.cfg.width ≡ 0 → area_seen r ≡ no_area
+  pub no_height : plane.cfg.height ≡ 0 → area_seen r ≡ no_area
+
+-- a tile shows a state's input at the places of the state's parts
+pub record ShowsInput {X : Type 0} (number : X → ℤ) (t : TileState) (tile : Tile X) : Type 0 where
+  pub y : ShowsStored number t.input.y (part_area t.places.y t.rec.y) tile.planes.y
+  pub u : ShowsStored number t.input.u (part_area t.places.u t.rec.u) tile.planes.u
+  pub v : ShowsStored number t.input.v (part_area t.places.v t.rec.v) tile.planes.v
+
+-- the input of a state stores the rectangles of the state's parts
+pub record HoldsInput (t : TileState) : Type 0 where
+  pub y : StoresRect t.input.y.cfg (part_area t.places.y t.rec.y)
+  pub u : StoresRect t.input.u.cfg (part_area t.places.u t.rec.u)
+  pub v : StoresRect t.input.v.cfg (part_area t.places.v t.rec.v)
+
+-- a view shows a part of a table with these sides
+pub record ShowsTablePart {E : Type 0} (part : Part E) (table_cols table_rows : ℕ) (v : TileView E) : Type 0 where
+  pub entries : view_entries v ≡ part.entries
+  pub step : view_step v ≡ part.rect.width
+  pub x : view_x v ≡ part.rect.x
+  pub y : view_y v ≡ part.rect.y
+  pub cols : view_cols v ≡ part.rect.width
+  pub rows : view_rows v ≡ part.rect.height
+  pub frame_cols : view_frame_cols v ≡ table_cols
+  pub frame_rows : view_frame_rows v ≡ table_rows
+
+-- the part of motion table i
+abbrev pub motion_part_at : List (Part MEStats) → ℕ → Part MEStats
+motion_part_at parts i = slice_index_or parts i no_part
+
+-- the tile's luma samples in the frame, without those that fill its last superblocks
+abbrev pub state_rect : TileState → TileRect
+state_rect t = record {
+  x = t.superblock.0 * 2 ^ t.sb_size_log2;
+  y = t.superblock.1 * 2 ^ t.sb_size_log2;
+  width = t.width;
+  height = t.height;
+}
+
+-- the tile's first superblock
+abbrev pub first_superblock : TileState → SuperBlockOffset
+first_superblock t = record { x = t.superblock.0; y = t.superblock.1 }
+
+-- the tile's first block
+abbrev pub first_block : TileState → BlockOffset
+first_block t = record { x = t.superblock.0 * 2 ^ (t.sb_size_log2 - 2); y = t.superblock.1 * 2 ^ (t.sb_size_log2 - 2) }

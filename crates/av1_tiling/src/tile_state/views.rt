@@ -1,0 +1,130 @@
+//! What a tile's state lends, at its place in the frame.
+ghost use Rattle.std.specs.Prelude.{◌≡◌, ◌⊎◌, ◌<◌, ◌^◌};
+ghost use Rattle.av1_plane.specs.Offset.{block_sum, superblock_sum};
+ghost use Rattle.av1_plane.specs.Regions.{StoresRect};
+ghost use Rattle.av1_tiling.specs.Views.{view_plane, view_samples};
+ghost use Rattle.av1_tiling.specs.TileViews.{ShowsPart, ShowsParts, ShowsStored, ShowsInput, HoldsInput, ShowsTablePart, motion_part_at, part_area, state_rect, first_block, first_superblock};
+
+use crate::part_place::PartPlace;
+use crate::tile_state::TileStateMut;
+use av1_block::{Cut, TileMEStats};
+use av1_plane::{
+    BlockOffset, Pixel, Plane, PlaneBlockOffset, PlaneRegion, PlaneSuperBlockOffset, Rect,
+    SuperBlockOffset, Three, Tile, TileBlockOffset, TileRect, TileSuperBlockOffset,
+};
+
+impl<T: Pixel> TileStateMut<T> {
+    /// The tile's part of the reconstruction.
+    pub fn rec(&self) -> Tile<'_, T>
+        ensures { ShowsParts T.number self.now result }
+    {
+        Tile {
+            planes: Three {
+                y: part_region(&self.rec.y, &self.places.y),
+                u: part_region(&self.rec.u, &self.places.u),
+                v: part_region(&self.rec.v, &self.places.v),
+            },
+        }
+    }
+
+    /// The tile's part of the input.
+    pub fn input_tile(&self) -> Tile<'_, T>
+        requires { HoldsInput self.now }
+        ensures { ShowsInput T.number self.now result }
+    {
+        let input = &self.input.planes;
+        Tile {
+            planes: Three {
+                y: stored_region(&input.y, part_rect(&self.rec.y, &self.places.y)),
+                u: stored_region(&input.u, part_rect(&self.rec.u, &self.places.u)),
+                v: stored_region(&input.v, part_rect(&self.rec.v, &self.places.v)),
+            },
+        }
+    }
+
+    /// The tile's part of the motion records for reference `i`, below 8.
+    pub fn me_stats(&self, i: usize) -> TileMEStats<'_>
+        requires { i < 8 }
+        ensures { ShowsTablePart (motion_part_at self.now.me_stats i)
+            self.now.mi_cols self.now.mi_rows result }
+    {
+        self.me_stats.view(i)
+    }
+
+    /// The tile's luma samples in the frame, without those that fill its last superblocks.
+    pub fn tile_rect(&self) -> TileRect
+        requires log2 { (self.now.sb_size_log2 ≡ 6) ⊎ (self.now.sb_size_log2 ≡ 7) }
+        requires x { self.now.superblock.0 < 2 ^ 32 }
+        requires y { self.now.superblock.1 < 2 ^ 32 }
+        ensures { result ≡ state_rect self.now }
+    {
+        TileRect {
+            x: self.sbo.0.x * (1 << self.sb_size_log2),
+            y: self.sbo.0.y * (1 << self.sb_size_log2),
+            width: self.width,
+            height: self.height,
+        }
+    }
+
+    /// A block of the tile as one of the frame.
+    pub fn to_frame_block_offset(&self, tile_bo: TileBlockOffset) -> PlaneBlockOffset
+        requires log2 { (self.now.sb_size_log2 ≡ 6) ⊎ (self.now.sb_size_log2 ≡ 7) }
+        requires x { self.now.superblock.0 < 2 ^ 32 }
+        requires y { self.now.superblock.1 < 2 ^ 32 }
+        requires block_x { tile_bo.0.x < 2 ^ 32 }
+        requires block_y { tile_bo.0.y < 2 ^ 32 }
+        ensures { result.0 ≡ block_sum (first_block self.now) tile_bo.0 }
+    {
+        let side = 1 << (self.sb_size_log2 - 2);
+        PlaneBlockOffset(BlockOffset {
+            x: self.sbo.0.x * side + tile_bo.0.x,
+            y: self.sbo.0.y * side + tile_bo.0.y,
+        })
+    }
+
+    /// A superblock of the tile as one of the frame.
+    pub fn to_frame_super_block_offset(
+        &self,
+        tile_sbo: TileSuperBlockOffset,
+    ) -> PlaneSuperBlockOffset
+        requires x { self.now.superblock.0 < 2 ^ 32 }
+        requires y { self.now.superblock.1 < 2 ^ 32 }
+        requires superblock_x { tile_sbo.0.x < 2 ^ 32 }
+        requires superblock_y { tile_sbo.0.y < 2 ^ 32 }
+        ensures { result.0 ≡ superblock_sum (first_superblock self.now) tile_sbo.0 }
+    {
+        PlaneSuperBlockOffset(SuperBlockOffset {
+            x: self.sbo.0.x + tile_sbo.0.x,
+            y: self.sbo.0.y + tile_sbo.0.y,
+        })
+    }
+}
+
+// The rectangle of a part of a plane, from the plane's origin.
+fn part_rect<T: Pixel>(cut: &Cut<T>, place: &PartPlace) -> Rect
+    ensures { result ≡ part_area place.now (view_samples T.number cut.now) }
+{
+    let TileRect { width, height, .. } = cut.rect();
+    Rect {
+        x: place.x,
+        y: place.y,
+        width,
+        height,
+    }
+}
+
+// A part of a plane, at its place.
+fn part_region<'a, T: Pixel>(cut: &'a Cut<T>, place: &'a PartPlace) -> PlaneRegion<'a, T>
+    ensures { ShowsPart T.number place.now (view_samples T.number cut.now) result }
+{
+    let width = cut.rect().width;
+    PlaneRegion::from_part(cut.entries(), width, &place.cfg, part_rect(cut, place))
+}
+
+// A rectangle of a plane.
+fn stored_region<T: Pixel>(plane: &Plane<T>, rect: Rect) -> PlaneRegion<'_, T>
+    requires { StoresRect plane.now.cfg rect }
+    ensures { ShowsStored T.number (view_plane T.number plane.now) rect result }
+{
+    PlaneRegion::new(plane, rect)
+}
