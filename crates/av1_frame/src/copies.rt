@@ -1,4 +1,4 @@
-//! Copies of tables that tiles are put back into.
+//! Copies of tables of motion records.
 ghost use Rattle.std.specs.Prelude.{◌≡◌, IfOk};
 
 use av1_block::FrameMEStats;

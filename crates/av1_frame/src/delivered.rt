@@ -4,7 +4,7 @@ use av1_plane::Pixel;
 use av1_tiling::TileContextMut;
 
 /// What a table gives for a tile that was handed out: the coder's answer, and the view after it.
-#[derive(Drop)]
+#[derive(Debug, Drop)]
 pub struct Delivered<T: Pixel> {
     pub coded: Result<Vec<u8>, CodeError>,
     pub view: TileContextMut<T>,

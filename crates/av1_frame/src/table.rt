@@ -8,6 +8,7 @@ use crate::rule::{Handed, Key, Know};
 use atomic_table::{Seat, Table};
 use av1_plane::Pixel;
 use std::alloc::Global;
+use std::fmt;
 
 /// Hands out the tiles of one run, each once, to callers on any number of threads.
 #[derive(Drop)]
@@ -19,10 +20,23 @@ pub struct TileTable<'a, T: Pixel, C: TileCoder<T>> {
     ghost same_coder: { coder.now ≡ table.shared.key.1.value },
 }
 
-/// One caller's token of no bytes, in which contracts see the tiles that it claimed and found taken.
+/// One caller's token of no bytes, in which contracts see the tiles that the caller claimed and those
+/// that it found taken.
 #[derive(Drop)]
 pub struct TileSeat<T: Pixel, C> {
     pub(crate) seat: Seat<Place<T>, Know<T, C>>,
     ghost idle: { is_idle seat.me.0 ≡ true },
     ghost empty: { seat.me.1 ≡ [] },
+}
+
+impl<T: Pixel, C: TileCoder<T>> fmt::Debug for TileTable<'_, T, C> {
+    fn fmt<W: fmt::Write>(&self, f: &mut fmt::Formatter<W>) -> fmt::Result {
+        f.debug_struct("TileTable").finish_non_exhaustive()
+    }
+}
+
+impl<T: Pixel, C> fmt::Debug for TileSeat<T, C> {
+    fn fmt<W: fmt::Write>(&self, f: &mut fmt::Formatter<W>) -> fmt::Result {
+        f.debug_struct("TileSeat").finish_non_exhaustive()
+    }
 }
