@@ -1,7 +1,7 @@
 -- The small frame of the tests.
-use Rattle.std.proofs.Common.{◌≡◌, ℕ, ℤ, pos, ◌+◌, ◌*◌, ◌<◌, ◌≤◌, List, [], ◌∷◌, length, drop, get_or, map, All, sym, ap, subst, arith, inl, inr}
+use Rattle.std.proofs.Common.{◌≡◌, ℕ, ℤ, pos, ◌+◌, ◌*◌, ◌<◌, ◌≤◌, List, [], ◌∷◌, length, get_or, map, All, sym, ap, subst, arith, inl, inr}
 use Rattle.std.proofs.lemmas.Bool.{cases_lt}
-use Rattle.std.proofs.lemmas.List.{get_or_past, get_or-drop}
+use Rattle.std.proofs.lemmas.List.{get_or_past}
 use Rattle.std.proofs.lemmas.List.Elements.{All-get_or, All-cons}
 use Rattle.av1_plane.specs.Numbers.{InDepth, Below}
 use Rattle.av1_plane.specs.Layout.{frame_layout, plane_layout}
@@ -45,12 +45,10 @@ small_room cfg b r e shown stored ec er = record {
   height = rw (shown, e, er) (omega arith);
 }
 
--- the blocks of a table whose indices are low are blocks of a view with low indices
-pub indices_made : (b : TileBlocks) (entries : List Block) (n : ℕ) → view_entries b ≡ drop n entries → All (λ (k : Block). k.cdef_index ≤ 7) entries → HasIndices b
-indices_made b entries n e h = record {
-  each = λ x y lx ly.
-      subst (λ (z : List Block). (get_or z (y * b.step + x) default_block).cdef_index ≤ 7) (sym e)
-      (subst (λ (k : Block). k.cdef_index ≤ 7) (sym (get_or-drop n entries (y * b.step + x) default_block)) (low (n + (y * b.step + x))));
+-- blocks of a table whose indices are low
+pub indices_made : (b : TileBlocks) (entries : List Block) → view_entries b ≡ entries → All (λ (k : Block). k.cdef_index ≤ 7) entries → HasIndices b
+indices_made b entries e h = record {
+  each = λ x y lx ly. subst (λ (z : List Block). (get_or z (y * b.step + x) default_block).cdef_index ≤ 7) (sym e) (low (y * b.step + x));
 }
   where
     low : (i : ℕ) → (get_or entries i default_block).cdef_index ≤ 7

@@ -1,17 +1,20 @@
-ghost use Rattle.std.specs.Prelude.{◌≡◌, ◌*◌, ◌≤◌, pos, map, replicate, IfOk};
+ghost use Rattle.std.specs.Prelude.{◌≡◌, ◌*◌, ◌≤◌, All, pos, map, IfOk};
 ghost use Rattle.av1_plane.specs.Numbers.{Below};
 ghost use Rattle.av1_plane.specs.Layout.{plane_layout, frame_layout};
 ghost use Rattle.av1_plane.specs.declared.sampling.ChromaSampling.TheVariants.{Cs400};
-ghost use Rattle.av1_block.specs.Block.{default_block};
 ghost use Rattle.av1_tiling.specs.Views.{view_frame};
-ghost use Rattle.av1_tiling.specs.Frames.{IsFrame, layouts};
+ghost use Rattle.av1_tiling.specs.Frames.{IsFrame, IsInputFor, layouts};
 
 use super::{
-    CDEF_HAVE_LEFT, CDEF_HAVE_TOP, CDEF_VERY_LARGE, adjust_strength, cdef_filter_tile,
-    cdef_find_dir, constrain, first_max_element, pad_into_tmp16,
+    CDEF_HAVE_LEFT, CDEF_HAVE_TOP, CDEF_VERY_LARGE, adjust_strength, cdef_analyze_superblock,
+    cdef_analyze_superblock_range, cdef_filter_tile, cdef_find_dir, constrain, first_max_element,
+    pad_into_tmp16,
 };
-use av1_block::{AsTileBlocks, FrameBlocks};
-use av1_plane::{AsRegion, ChromaSampling, Frame, FrameAlloc, Plane, PlaneOffset, Three, TileMut};
+use av1_block::{AsTileBlocks, Block, FrameBlocks};
+use av1_plane::{
+    AsRegion, ChromaSampling, Frame, FrameAlloc, Plane, PlaneOffset, SuperBlockOffset, Three,
+    TileMut, TileSuperBlockOffset,
+};
 use av1_tiling::{FrameInvariants, FrameType, ReferenceFramesSet, Sequence, TilingInfo};
 use std::alloc::Global;
 use std::test::Fail;
@@ -155,7 +158,42 @@ fn fill_plane(plane: &mut Plane<u8>)
     fill_spot(plane.samples.as_mut_slice());
 }
 
-// Filters a small frame into the planes of its copy.
+// The input of a small frame: all samples are 100, but 102 at row 4, column 4.
+fn small_input(alloc: Global, fi: &FrameInvariants<u8>) -> Result<Frame<u8>, Fail>
+    requires sides { (fi.now.width ≡ 8) × (fi.now.height ≡ 8) }
+    requires sampling { fi.now.sequence.chroma_sampling ≡ Cs400 }
+    requires depth { fi.now.sequence.bit_depth ≡ 8 }
+    ensures input { IfOk result (λ f. IsInputFor fi.now (view_frame pos f)) }
+    ensures layout { IfOk result (λ f. layouts (view_frame pos f) ≡ frame_layout 8 8 Cs400) }
+{
+    let mut input: Frame<u8> = Frame::new(alloc, 8, 8, ChromaSampling::Cs400)?;
+    fill_plane(&mut input.planes.y);
+    see(input.planes.y.samples.as_slice());
+    Ok(input)
+}
+
+// Blocks that are all skipped or all not, with the first index of strengths.
+fn fill_blocks(entries: &mut [Block], skip: bool)
+    ensures { All (λ b. b.cdef_index ≤ 7) entries.new }
+{
+    for i in 0..entries.len() {
+        let mut block = Block::default();
+        block.skip = skip;
+        entries[i] = block;
+    }
+}
+
+// The blocks of a small frame.
+fn small_blocks(alloc: Global, skip: bool) -> Result<FrameBlocks, Fail>
+    ensures sides { IfOk result (λ b. (b.cols ≡ 2) × (b.rows ≡ 2)) }
+    ensures indices { IfOk result (λ b. All (λ k. k.cdef_index ≤ 7) b.entries) }
+{
+    let mut blocks = FrameBlocks::new(alloc, 2, 2)?;
+    fill_blocks(blocks.entries_mut(), skip);
+    Ok(blocks)
+}
+
+// Filters the input of a small frame into the planes of its copy.
 fn filter_small(
     fi: &FrameInvariants<u8>,
     input: &Frame<u8>,
@@ -165,16 +203,13 @@ fn filter_small(
     v: &mut Plane<u8>,
 )
     requires frame { IsFrame 256 fi.now }
-    requires sides { (fi.now.width ≡ 8) × (fi.now.height ≡ 8) }
-    requires sampling { fi.now.sequence.chroma_sampling ≡ Cs400 }
-    requires depth { fi.now.sequence.bit_depth ≡ 8 }
     requires sizes { (fi.now.w_in_b ≡ 2) × (fi.now.h_in_b ≡ 2) }
-    requires input { layouts (view_frame pos input.now) ≡ frame_layout 8 8 Cs400 }
+    requires input { IsInputFor fi.now (view_frame pos input.now) }
+    requires layout { layouts (view_frame pos input.now) ≡ frame_layout 8 8 Cs400 }
     requires output { y.old.cfg ≡ plane_layout 8 8 0 0 88 88 }
     requires blocks { (blocks.now.cols ≡ 2) × (blocks.now.rows ≡ 2) }
-    requires entries { blocks.now.entries ≡ replicate (2 * 2) default_block }
+    requires indices { All (λ b. b.cdef_index ≤ 7) blocks.now.entries }
 {
-    see(input.planes.y.samples.as_slice());
     let y = y.as_region_mut();
     let u = u.as_region_mut();
     let v = v.as_region_mut();
@@ -185,17 +220,43 @@ fn filter_small(
     cdef_filter_tile(fi, input, &table, &mut tile);
 }
 
-#[test]
-fn one_sample_of_a_frame(rt: HostRuntime) -> Result<(), Fail> {
-    let alloc = rt.alloc();
+// A small frame, filtered.
+fn filtered_frame(alloc: Global, skip: bool) -> Result<Frame<u8>, Fail> {
     let fi = small_frame(alloc)?;
-    let mut input: Frame<u8> = Frame::new(alloc, 8, 8, ChromaSampling::Cs400)?;
-    fill_plane(&mut input.planes.y);
+    let input = small_input(alloc, &fi)?;
+    let blocks = small_blocks(alloc, skip)?;
     let mut output = input.try_clone(alloc)?;
-    let blocks = FrameBlocks::new(alloc, 2, 2)?;
     let Three { y, u, v } = &mut output.planes;
     filter_small(&fi, &input, &blocks, y, u, v);
-    assert_eq!(rt; input.planes.y.samples.get(SPOT), Some(&102));
-    assert_eq!(rt; output.planes.y.samples.get(SPOT), Some(&100));
+    Ok(output)
+}
+
+#[test]
+fn one_sample_of_a_frame(rt: HostRuntime) -> Result<(), Fail> {
+    let output = filtered_frame(rt.alloc(), false)?;
+    assert!(rt; output.planes.y.samples.iter().all(|sample| *sample == 100));
+    Ok(())
+}
+
+#[test]
+fn a_skipped_block_stays(rt: HostRuntime) -> Result<(), Fail> {
+    let output = filtered_frame(rt.alloc(), true)?;
+    assert_eq!(rt; output.planes.y.samples.get(SPOT), Some(&102));
+    Ok(())
+}
+
+#[test]
+fn directions_of_a_range(rt: HostRuntime) -> Result<(), Fail> {
+    let alloc = rt.alloc();
+    let fi = small_frame(alloc)?;
+    let input = small_input(alloc, &fi)?;
+    let blocks = small_blocks(alloc, false)?;
+    let view = blocks.as_tile_blocks();
+    let first = TileSuperBlockOffset(SuperBlockOffset { x: 0, y: 0 });
+    let alone = cdef_analyze_superblock(&fi, &input, &view, first);
+    let range = cdef_analyze_superblock_range(&rt, alloc, &fi, &input, &view, 1, 1)?;
+    assert_eq!(rt; range.len(), 1);
+    assert_eq!(rt; range[0].dir(0, 0), alone.dir(0, 0));
+    assert_eq!(rt; range[0].var(0, 0), alone.var(0, 0));
     Ok(())
 }
