@@ -9,7 +9,7 @@ use Rattle.av1_block.specs.Block.{default_block}
 use Rattle.av1_block.specs.declared.block.Block.{Block}
 use Rattle.av1_rec.specs.declared.text.block_line.BlockLine.{BlockLine}
 use Rattle.av1_rec.specs.BlockTable.{holds, block_after, blocks_said}
-use Rattle.av1_rec.specs.Bands.{is_end, ends_at, ends_below, ends_with, no_line, last_line, block_of}
+use Rattle.av1_rec.specs.Bands.{is_end, ends_at, ends_below, ends_with, no_line, last_line, numbered_block}
 use Rattle.av1_rec.proofs.FirstValues.{all_lines}
 use Rattle.av1_rec.proofs.BlockPlaces.{row_before, row_behind, line_written, all_said}
 
@@ -256,35 +256,35 @@ place_inside y rows m width p count some lt narrow le =
     let all : ((y + 1) / m + 1) * width ≤ (rows / m + 1) * width = mul-le ((y + 1) / m + 1) width (rows / m + 1) width (omega arith) (omega arith) in
     omega arith
 
-pick : (lines : List BlockLine) (b : Bool) (n m : ℕ) → block_of lines (if b then suc n else m) ≡ (if b then (get_or lines n no_line).block else block_of lines m)
-unfolding block_of
+pick : (lines : List BlockLine) (b : Bool) (n m : ℕ) → numbered_block lines (if b then suc n else m) ≡ (if b then (get_or lines n no_line).block else numbered_block lines m)
+unfolding numbered_block
 pick lines true n m = refl
 pick lines false n m = refl
 
 -- the block of the last line that holds a place is the one that stands there when all are written in order
-last_is_after : (lines : List BlockLine) (n x y : ℕ) → n ≤ length lines → block_of lines (last_line (λ line. holds line x y) lines n) ≡ block_after default_block (take n lines) x y
-unfolding last_line block_of
+last_is_after : (lines : List BlockLine) (n x y : ℕ) → n ≤ length lines → numbered_block lines (last_line (λ line. holds line x y) lines n) ≡ block_after default_block (take n lines) x y
+unfolding last_line numbered_block
 last_is_after lines zero x y le = refl
 last_is_after lines (suc n) x y le =
     let line = get_or lines n no_line in
     let k : n + 1 ≡ suc n = omega arith in
-    line_written lines line n x y _ (block_of lines (last_line (λ line. holds line x y) lines n)) (omega arith) (same_line lines n no_line line (omega arith)) (last_is_after lines n x y (omega arith)) (pick lines (holds line x y) n (last_line (λ line. holds line x y) lines n))
+    line_written lines line n x y _ (numbered_block lines (last_line (λ line. holds line x y) lines n)) (omega arith) (same_line lines n no_line line (omega arith)) (last_is_after lines n x y (omega arith)) (pick lines (holds line x y) n (last_line (λ line. holds line x y) lines n))
     ∙ ap (λ i. block_after default_block (take i lines) x y) k
 
-map_at : (lines : List BlockLine) (numbers : List ℕ) (i : ℕ) → get_or (map (λ n. block_of lines n) numbers) i default_block ≡ block_of lines (get_or numbers i 0)
-unfolding block_of
+map_at : (lines : List BlockLine) (numbers : List ℕ) (i : ℕ) → get_or (map (λ n. numbered_block lines n) numbers) i default_block ≡ numbered_block lines (get_or numbers i 0)
+unfolding numbered_block
 map_at lines [] i = refl
 map_at lines (n ∷ numbers) zero = refl
 map_at lines (n ∷ numbers) (suc i) = map_at lines numbers i
 
-map_count : (lines : List BlockLine) (numbers : List ℕ) → length (map (λ n. block_of lines n) numbers) ≡ length numbers
+map_count : (lines : List BlockLine) (numbers : List ℕ) → length (map (λ n. numbered_block lines n) numbers) ≡ length numbers
 map_count lines [] = refl
-map_count lines (n ∷ numbers) = let e : length (map (λ n. block_of lines n) numbers) ≡ length numbers = map_count lines numbers in omega arith
+map_count lines (n ∷ numbers) = let e : length (map (λ n. numbered_block lines n) numbers) ≡ length numbers = map_count lines numbers in omega arith
 
 -- the blocks of the last lines are those that all lines say
-pub last_blocks : (cols rows : ℕ) (lines : List BlockLine) (numbers : List ℕ) (items : List Block) → length numbers ≡ cols * rows → items ≡ map (λ n. block_of lines n) numbers
+pub last_blocks : (cols rows : ℕ) (lines : List BlockLine) (numbers : List ℕ) (items : List Block) → length numbers ≡ cols * rows → items ≡ map (λ n. numbered_block lines n) numbers
     → ((x y : ℕ) → x < cols → y < rows → get_or numbers (y * cols + x) 0 ≡ last_line (λ line. holds line x y) lines (length lines)) → items ≡ blocks_said cols rows lines
 last_blocks cols rows lines numbers items count e last =
     all_said cols rows lines items (ap length e ∙ map_count lines numbers ∙ count) (λ x y hx hy.
-    ap (λ l. get_or l (y * cols + x) default_block) e ∙ map_at lines numbers (y * cols + x) ∙ ap (block_of lines) (last x y hx hy) ∙ last_is_after lines (length lines) x y (omega arith)
+    ap (λ l. get_or l (y * cols + x) default_block) e ∙ map_at lines numbers (y * cols + x) ∙ ap (numbered_block lines) (last x y hx hy) ∙ last_is_after lines (length lines) x y (omega arith)
     ∙ ap (λ (l : List BlockLine). block_after default_block l x y) (all_lines lines (length lines) (omega arith)))

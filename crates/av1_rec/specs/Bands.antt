@@ -32,6 +32,6 @@ last_line test lines zero = 0
 last_line test lines (suc n) = if test (slice_index_or lines n no_line) then suc n else last_line test lines n
 
 -- the block of the line with this number, and the default block for 0
-unfoldable pub block_of : List BlockLine → ℕ → Block
-block_of lines zero = default_block
-block_of lines (suc n) = (slice_index_or lines n no_line).block
+unfoldable pub numbered_block : List BlockLine → ℕ → Block
+numbered_block lines zero = default_block
+numbered_block lines (suc n) = (slice_index_or lines n no_line).block

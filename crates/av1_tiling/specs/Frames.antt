@@ -174,14 +174,14 @@ abbrev pub frame_parts : Three PlaneView → TileRect → Three (Part ℤ)
 frame_parts f luma = record { y = plane_part f.y luma; u = plane_part f.u luma; v = plane_part f.v luma }
 
 -- where the part of a plane that a rectangle of luma samples covers stands; at the origin of an empty plane
-abbrev pub part_place : PlaneConfig → TileRect → PartPlace
-part_place cfg luma =
+abbrev pub plane_part_place : PlaneConfig → TileRect → PartPlace
+plane_part_place cfg luma =
     if (cfg.width == 0) || (cfg.height == 0) then record { cfg = cfg; x = pos 0; y = pos 0 }
     else (let rect = decimated_tile luma cfg.xdec cfg.ydec in record { cfg = cfg; x = pos rect.x; y = pos rect.y })
 
 -- the places of all planes' parts
 abbrev pub part_places : Three PlaneView → TileRect → Three PartPlace
-part_places f luma = record { y = part_place f.y.cfg luma; u = part_place f.u.cfg luma; v = part_place f.v.cfg luma }
+part_places f luma = record { y = plane_part_place f.y.cfg luma; u = plane_part_place f.u.cfg luma; v = plane_part_place f.v.cfg luma }
 
 -- a rectangle of each table of motion records, cut out
 abbrev pub motion_parts : List (Rows MEStats) → TileRect → List (Part MEStats)

@@ -82,9 +82,9 @@ state_rect t = record {
 }
 
 -- the tile's first superblock
-abbrev pub first_superblock : TileState → SuperBlockOffset
-first_superblock t = record { x = t.superblock.0; y = t.superblock.1 }
+abbrev pub tile_first_superblock : TileState → SuperBlockOffset
+tile_first_superblock t = record { x = t.superblock.0; y = t.superblock.1 }
 
 -- the tile's first block
-abbrev pub first_block : TileState → BlockOffset
-first_block t = record { x = t.superblock.0 * 2 ^ (t.sb_size_log2 - 2); y = t.superblock.1 * 2 ^ (t.sb_size_log2 - 2) }
+abbrev pub tile_first_block : TileState → BlockOffset
+tile_first_block t = record { x = t.superblock.0 * 2 ^ (t.sb_size_log2 - 2); y = t.superblock.1 * 2 ^ (t.sb_size_log2 - 2) }

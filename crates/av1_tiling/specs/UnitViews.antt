@@ -166,9 +166,9 @@ pub record HasUnitPlaces (t : TileState) : Type 0 where
   pub v : LieInTable t.unit_layouts.v t.units.v.rect
 
 -- a view of the units that were cut out
-abbrev pub ShowsPart : RestorationPlaneConfig → Part RestorationUnit → TileRestorationPlane → Type 0
-ShowsPart layout part v = ShowsUnits layout part.entries part.rect.width part.rect v
+abbrev pub ShowsUnitPart : RestorationPlaneConfig → Part RestorationUnit → TileRestorationPlane → Type 0
+ShowsUnitPart layout part v = ShowsUnits layout part.entries part.rect.width part.rect v
 
 -- a view of them for writing
-abbrev pub LendsPart : RestorationPlaneConfig → Part RestorationUnit → TileRestorationPlaneMut → Type 0
-LendsPart layout part v = LendsUnits layout part.entries part.rect.width (cut_window part.rect layout.cols layout.rows) v
+abbrev pub LendsUnitPart : RestorationPlaneConfig → Part RestorationUnit → TileRestorationPlaneMut → Type 0
+LendsUnitPart layout part v = LendsUnits layout part.entries part.rect.width (cut_window part.rect layout.cols layout.rows) v

@@ -3,7 +3,7 @@ ghost use Rattle.av1_tiling.specs.Views.{view_plane, view_samples, view_frame, v
 ghost use Rattle.av1_tiling.specs.Restoration.{units_of, units_in};
 ghost use Rattle.av1_tiling.specs.TileRects.{samples_rect, motion_rect, units_rect};
 ghost use Rattle.av1_tiling.specs.UnitViews.{HasShifts};
-ghost use Rattle.av1_tiling.specs.Frames.{stored_rect, plane_part, frame_parts, part_place, part_places, motion_parts, unit_part, unit_parts, PartFits, HoldsRect, CanCutUnits};
+ghost use Rattle.av1_tiling.specs.Frames.{stored_rect, plane_part, frame_parts, plane_part_place, part_places, motion_parts, unit_part, unit_parts, PartFits, HoldsRect, CanCutUnits};
 
 use crate::part_place::PartPlace;
 use crate::restoration_plane::RestorationPlane;
@@ -102,7 +102,7 @@ pub(crate) fn cut_frame<T: Pixel>(
 // Where the part of a plane that a rectangle of luma samples covers stands.
 fn part_place(cfg: &PlaneConfig, luma: TileRect) -> PartPlace
     requires { PartFits cfg.now luma }
-    ensures { result ≡ part_place cfg.now luma }
+    ensures { result ≡ plane_part_place cfg.now luma }
 {
     if cfg.width == 0 || cfg.height == 0 {
         return PartPlace {

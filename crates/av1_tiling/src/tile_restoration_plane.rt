@@ -4,7 +4,7 @@ ghost use Rattle.av1_plane.specs.Offset.{superblock_sum};
 ghost use Rattle.av1_block.specs.Tables.{view_entries, view_step, view_x, view_y, view_cols, view_rows};
 ghost use Rattle.av1_block.specs.Cut.{cut_rect};
 ghost use Rattle.av1_tiling.specs.Views.{view_cut};
-ghost use Rattle.av1_tiling.specs.UnitViews.{HasShifts, LieInTable, ShowsPart, wiener_start, sgrproj_start, unit_index, unit_at, index_difference, view_sides, across_side, down_side, is_last_superblock, Serves};
+ghost use Rattle.av1_tiling.specs.UnitViews.{HasShifts, LieInTable, ShowsUnitPart, wiener_start, sgrproj_start, unit_index, unit_at, index_difference, view_sides, across_side, down_side, is_last_superblock, Serves};
 
 use crate::frame_invariants::FrameInvariants;
 use crate::restoration::{SGRPROJ_XQD_MID, WIENER_TAPS_MID};
@@ -58,7 +58,7 @@ impl<'a> TileRestorationPlane<'a> {
         cut: &'a Cut<RestorationUnit>,
     ) -> TileRestorationPlane<'a>
         requires { LieInTable cfg.now (cut_rect cut.now) }
-        ensures { ShowsPart cfg.now (view_cut cut.now) result }
+        ensures { ShowsUnitPart cfg.now (view_cut cut.now) result }
     {
         TileRestorationPlane {
             rp_cfg: cfg,

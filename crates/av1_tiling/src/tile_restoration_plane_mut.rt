@@ -6,7 +6,7 @@ ghost use Rattle.av1_block.specs.Writing.{window, table_under, entries_under, pl
 ghost use Rattle.av1_block.specs.Windows.{frame_window};
 ghost use Rattle.av1_block.specs.Cut.{cut_rect};
 ghost use Rattle.av1_tiling.specs.Views.{view_cut};
-ghost use Rattle.av1_tiling.specs.UnitViews.{HasShifts, LieInTable, LendsPart, wiener_start, sgrproj_start, unit_index, unit_under, index_difference, sides_under, across_side, down_side, is_last_superblock, Serves};
+ghost use Rattle.av1_tiling.specs.UnitViews.{HasShifts, LieInTable, LendsUnitPart, wiener_start, sgrproj_start, unit_index, unit_under, index_difference, sides_under, across_side, down_side, is_last_superblock, Serves};
 
 use crate::frame_invariants::FrameInvariants;
 use crate::restoration::{SGRPROJ_XQD_MID, WIENER_TAPS_MID};
@@ -64,7 +64,7 @@ impl<'a> TileRestorationPlaneMut<'a> {
         cut: &'a mut Cut<RestorationUnit>,
     ) -> TileRestorationPlaneMut<'a>
         requires { LieInTable cfg.now (cut_rect cut.old) }
-        ensures { LendsPart cfg.now (view_cut cut.old) result }
+        ensures { LendsUnitPart cfg.now (view_cut cut.old) result }
     {
         TileRestorationPlaneMut {
             rp_cfg: cfg,

@@ -183,14 +183,14 @@ impl<T: Pixel> TileStateMut<T> {
 }
 
 impl<T: Pixel> TileStateMut<T> {
-    ghost use Rattle.av1_tiling.specs.UnitViews.{HasUnitPlaces, ShowsPart, LendsPart};
+    ghost use Rattle.av1_tiling.specs.UnitViews.{HasUnitPlaces, ShowsUnitPart, LendsUnitPart};
 
     /// The tile's restoration units, at their places in the frame's tables, where they lie.
     pub fn restoration(&self) -> TileRestorationState<'_>
         requires { HasUnitPlaces self.now }
-        ensures y { ShowsPart self.now.unit_layouts.y self.now.units.y result.planes.y }
-        ensures u { ShowsPart self.now.unit_layouts.u self.now.units.u result.planes.u }
-        ensures v { ShowsPart self.now.unit_layouts.v self.now.units.v result.planes.v }
+        ensures y { ShowsUnitPart self.now.unit_layouts.y self.now.units.y result.planes.y }
+        ensures u { ShowsUnitPart self.now.unit_layouts.u self.now.units.u result.planes.u }
+        ensures v { ShowsUnitPart self.now.unit_layouts.v self.now.units.v result.planes.v }
     {
         TileRestorationState {
             planes: Three {
@@ -205,9 +205,9 @@ impl<T: Pixel> TileStateMut<T> {
     /// lie. What the tile has after a write is said by `units_mut` alone.
     pub fn restoration_mut(&mut self) -> TileRestorationStateMut<'_>
         requires { HasUnitPlaces self.old }
-        ensures y { LendsPart self.old.unit_layouts.y self.old.units.y result.planes.y }
-        ensures u { LendsPart self.old.unit_layouts.u self.old.units.u result.planes.u }
-        ensures v { LendsPart self.old.unit_layouts.v self.old.units.v result.planes.v }
+        ensures y { LendsUnitPart self.old.unit_layouts.y self.old.units.y result.planes.y }
+        ensures u { LendsUnitPart self.old.unit_layouts.u self.old.units.u result.planes.u }
+        ensures v { LendsUnitPart self.old.unit_layouts.v self.old.units.v result.planes.v }
     {
         TileRestorationStateMut::of_cuts(&self.unit_layouts, &mut self.units)
     }

@@ -1,5 +1,5 @@
 ghost use Rattle.std.specs.Prelude.{◌≡◌, ℕ, ◌*◌, ◌≤◌, map, length, slice_index_or, IfOk};
-ghost use Rattle.av1_rec.specs.Bands.{block_of};
+ghost use Rattle.av1_rec.specs.Bands.{numbered_block};
 ghost use Rattle.av1_rec.specs.BlockTable.{blocks_said};
 
 use crate::text::block_bands::raise_all;
@@ -8,9 +8,9 @@ use av1_block::Block;
 use std::alloc::{AllocError, Global};
 
 // The block of the line with this number, counted from 1, and the default block for 0.
-#[tactic(auto, unfolding(crate::specs::Bands::block_of, crate::specs::Bands::no_line))]
+#[tactic(auto, unfolding(crate::specs::Bands::numbered_block, crate::specs::Bands::no_line))]
 fn block_of(lines: &[BlockLine], number: usize) -> Block
-    ensures { result ≡ block_of lines.now number }
+    ensures { result ≡ numbered_block lines.now number }
 {
     if number == 0 || number > lines.len() {
         return Block::default();
@@ -23,7 +23,7 @@ fn blocks_of(
     lines: &[BlockLine],
     numbers: &[usize],
 ) -> Result<Vec<Block>, AllocError>
-    ensures { IfOk result (λ blocks. blocks.items ≡ map (λ n. block_of lines.now n) numbers.now) }
+    ensures { IfOk result (λ blocks. blocks.items ≡ map (λ n. numbered_block lines.now n) numbers.now) }
 {
     let mut blocks = Vec::with_capacity(alloc, numbers.len())?;
     for number in numbers {

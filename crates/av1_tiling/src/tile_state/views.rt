@@ -3,7 +3,7 @@ ghost use Rattle.std.specs.Prelude.{◌≡◌, ◌⊎◌, ◌<◌, ◌^◌};
 ghost use Rattle.av1_plane.specs.Offset.{block_sum, superblock_sum};
 ghost use Rattle.av1_plane.specs.Regions.{StoresRect};
 ghost use Rattle.av1_tiling.specs.Views.{view_plane, view_samples};
-ghost use Rattle.av1_tiling.specs.TileViews.{ShowsPart, ShowsParts, ShowsStored, ShowsInput, HoldsInput, ShowsTablePart, motion_part_at, part_area, state_rect, first_block, first_superblock};
+ghost use Rattle.av1_tiling.specs.TileViews.{ShowsPart, ShowsParts, ShowsStored, ShowsInput, HoldsInput, ShowsTablePart, motion_part_at, part_area, state_rect, tile_first_block, tile_first_superblock};
 
 use crate::part_place::PartPlace;
 use crate::tile_state::TileStateMut;
@@ -73,7 +73,7 @@ impl<T: Pixel> TileStateMut<T> {
         requires y { self.now.superblock.1 < 2 ^ 32 }
         requires block_x { tile_bo.0.x < 2 ^ 32 }
         requires block_y { tile_bo.0.y < 2 ^ 32 }
-        ensures { result.0 ≡ block_sum (first_block self.now) tile_bo.0 }
+        ensures { result.0 ≡ block_sum (tile_first_block self.now) tile_bo.0 }
     {
         let side = 1 << (self.sb_size_log2 - 2);
         PlaneBlockOffset(BlockOffset {
@@ -91,7 +91,7 @@ impl<T: Pixel> TileStateMut<T> {
         requires y { self.now.superblock.1 < 2 ^ 32 }
         requires superblock_x { tile_sbo.0.x < 2 ^ 32 }
         requires superblock_y { tile_sbo.0.y < 2 ^ 32 }
-        ensures { result.0 ≡ superblock_sum (first_superblock self.now) tile_sbo.0 }
+        ensures { result.0 ≡ superblock_sum (tile_first_superblock self.now) tile_sbo.0 }
     {
         PlaneSuperBlockOffset(SuperBlockOffset {
             x: self.sbo.0.x + tile_sbo.0.x,

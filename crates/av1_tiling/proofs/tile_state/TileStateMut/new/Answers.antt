@@ -5,6 +5,7 @@ use Rattle.av1_plane.specs.declared.plane.PlaneConfig.{PlaneConfig}
 use Rattle.av1_plane.specs.declared.tile_rect.TileRect.{TileRect}
 use Rattle.av1_plane.specs.declared.three.Three.{Three}
 use Rattle.av1_tiling.specs.Frames.{State, AreMotionTables, PartFits, frame_parts, part_places, unit_parts, motion_parts}
+use Rattle.av1_tiling.specs.Restoration.{layouts_of}
 use Rattle.av1_tiling.specs.TileRects.{samples_rect, motion_rect}
 use Rattle.av1_tiling.specs.Views.{PlaneView, view_frame, view_plane}
 use Rattle.av1_tiling.proofs.Fits.{fits_y, fits_u, fits_v, motion_sides, motion_across, motion_down}
@@ -86,6 +87,7 @@ returns g c =
     let rec = c.in_ok-rec.ensures ∙ (λ i. frame_parts (frame i) (luma i)) in
     let places = c.part_places.ensures ∙ (λ i. part_places (frame_4 i) (luma i)) in
     let unit_cuts = c.in_ok-units.ensures ∙ (λ i. unit_parts (units i) superblock (sb_width i, sb_height i)) in
+    let unit_layouts = c.layouts.ensures ∙ ap layouts_of units in
     let me_stats = c.in_ok-me_stats.ensures.parts ∙ (λ i. motion_parts (tables i) (motion i)) in
     let cols = c.in_ok-me_stats.ensures.cols ∙ ap (λ (f : Three PlaneView). f.y.cfg.width / 4) frame_2 in
     let rows = c.in_ok-me_stats.ensures.rows ∙ ap (λ (f : Three PlaneView). f.y.cfg.height / 4) frame_2 in
@@ -106,6 +108,7 @@ returns g c =
       rec = rec i;
       places = places i;
       units = unit_cuts i;
+      unit_layouts = unit_layouts i;
       me_stats = me_stats i;
       mi_cols = cols i;
       mi_rows = rows i;
