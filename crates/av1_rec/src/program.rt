@@ -124,7 +124,7 @@ fn try_make<R: Threads + Sync, S: Source, G: Gate>(
         → IfSome (S.left source.old) (λ _. S.left source.new ≡ Some [])) }
     ensures too_long { IfOk result (λ x. x.0 ≡ Status.TooLong
         → LosesCount (S.left source.old) (S.left source.new) (2 ^ 28 + 1)) }
-    ensures quiet { IfOk result (λ x. IsFaultless x.0
+    ensures quiet { S.is_quiet ≡ true → IfOk result (λ x. IsFaultless x.0
         → S.faults source.new ≡ S.faults source.old) }
     ensures unread { asks_for_text (command_of (map string_bytes words.now)) ≡ false
         → source.new ≡ source.old }
@@ -159,7 +159,8 @@ fn make<R: Threads + Sync, S: Source, G: Gate>(
         → IfSome (S.left source.old) (λ _. S.left source.new ≡ Some []) }
     ensures too_long { result.0 ≡ Status.TooLong
         → LosesCount (S.left source.old) (S.left source.new) (2 ^ 28 + 1) }
-    ensures quiet { IsFaultless result.0 → S.faults source.new ≡ S.faults source.old }
+    ensures quiet { S.is_quiet ≡ true → IsFaultless result.0
+        → S.faults source.new ≡ S.faults source.old }
     ensures unread { asks_for_text (command_of (map string_bytes words.now)) ≡ false
         → source.new ≡ source.old }
 {
@@ -174,7 +175,8 @@ fn finish<K: Sink>(sink: &mut K, status: Status, printed: &[u8]) -> Status
     ensures written { Finished status printed.now (Rose (K.faults sink.old) (K.faults sink.new))
         (K.written sink.old) (K.written sink.new) result }
     ensures kept { IsFaultless result → result ≡ status }
-    ensures quiet { IsFaultless result → K.faults sink.new ≡ K.faults sink.old }
+    ensures quiet { K.is_quiet ≡ true → IsFaultless result
+        → K.faults sink.new ≡ K.faults sink.old }
 {
     match write_all(sink, printed) {
         Ok(()) => status,
@@ -208,8 +210,10 @@ pub fn run<R: Threads + Sync, S: Source, K: Sink, G: Gate>(
         → IfSome (S.left source.old) (λ _. S.left source.new ≡ Some []) }
     ensures too_long { result ≡ Status.TooLong
         → LosesCount (S.left source.old) (S.left source.new) (2 ^ 28 + 1) }
-    ensures quiet_source { IsFaultless result → S.faults source.new ≡ S.faults source.old }
-    ensures quiet_sink { IsFaultless result → K.faults sink.new ≡ K.faults sink.old }
+    ensures quiet_source { S.is_quiet ≡ true → IsFaultless result
+        → S.faults source.new ≡ S.faults source.old }
+    ensures quiet_sink { K.is_quiet ≡ true → IsFaultless result
+        → K.faults sink.new ≡ K.faults sink.old }
     ensures unread { asks_for_text (command_of (map string_bytes words.now)) ≡ false
         → source.new ≡ source.old }
 {

@@ -1,4 +1,4 @@
-ghost use Rattle.std.specs.Prelude.{◌≡◌, ◌<◌, ◌≤◌, ◌++◌, length, take, min, Some, [], Contains, IfOk, IfErr, OnOk, OnErr, IsErrOf};
+ghost use Rattle.std.specs.Prelude.{true, ◌≡◌, ◌<◌, ◌≤◌, ◌++◌, length, take, min, Some, [], Contains, IfOk, IfErr, OnOk, OnErr, IsErrOf};
 ghost use Rattle.av1_rec.specs.Told.{Rose};
 
 use crate::program::sink::{Sink, SinkError};
@@ -50,6 +50,8 @@ impl Sink for MemorySink {
     ghost written = { λ s. Some (sink_bytes s) };
 
     ghost faults = { λ s. s.faults };
+
+    ghost is_quiet = { true };
 
     fn write(&mut self, buf: &[u8]) -> Result<usize, SinkError>
         ensures fits { IfOk result (λ n. n ≤ length buf.now) }
@@ -120,6 +122,8 @@ impl Sink for PlainSink {
     ghost written = { λ s. Some (plain_bytes s) };
 
     ghost faults = { λ s. 0 };
+
+    ghost is_quiet = { true };
 
     fn write(&mut self, buf: &[u8]) -> Result<usize, SinkError>
         ensures whole { IfOk result (λ n. n ≡ length buf.now) }

@@ -1,4 +1,4 @@
-ghost use Rattle.std.specs.Prelude.{◌≡◌, ◌<◌, ◌≤◌, ◌++◌, length, take, drop, min, vec_len, Some, [], Contains, IsOk, IfOk, OnOk, OnErr, MatchResult};
+ghost use Rattle.std.specs.Prelude.{true, ◌≡◌, ◌<◌, ◌≤◌, ◌++◌, length, take, drop, min, vec_len, Some, [], Contains, IsOk, IfOk, OnOk, OnErr, MatchResult};
 ghost use Rattle.av1_rec.specs.Told.{Rose};
 
 use crate::program::source::{Failed, Source};
@@ -61,6 +61,8 @@ impl Source for MemorySource {
 
     ghost faults = { λ s. s.faults };
 
+    ghost is_quiet = { true };
+
     fn read(&mut self, buf: &mut [u8]) -> Result<usize, Failed>
         ensures fits { IfOk result (λ n. n ≤ length buf.old) }
         ensures taken { IfOk result
@@ -116,6 +118,8 @@ impl Source for PlainSource {
     ghost left = { λ s. Some (plain_left s) };
 
     ghost faults = { λ s. 0 };
+
+    ghost is_quiet = { true };
 
     fn read(&mut self, buf: &mut [u8]) -> Result<usize, Failed>
         ensures works { IsOk result }

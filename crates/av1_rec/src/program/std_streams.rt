@@ -1,4 +1,4 @@
-ghost use Rattle.std.specs.Prelude.{◌≡◌, ◌<◌, ◌≤◌, None, length, take, IfOk, OnOk, OnErr, IsErrOf};
+ghost use Rattle.std.specs.Prelude.{true, ◌≡◌, ◌<◌, ◌≤◌, None, length, take, IfOk, OnOk, OnErr, IsErrOf};
 ghost use Rattle.std.specs.Io.KnownBytes.{Consumes, IsAtEnd, Appends, Keeps};
 ghost use Rattle.av1_rec.specs.Told.{Rose};
 
@@ -46,6 +46,8 @@ impl<R: Read> Source for ReadSource<R> {
     ghost left = { λ s. R.remaining s.reader };
 
     ghost faults = { λ s. s.faults };
+
+    ghost is_quiet = { true };
 
     fn read(&mut self, buf: &mut [u8]) -> Result<usize, Failed> {
         match read_retrying(&mut self.reader, buf) {
@@ -137,6 +139,8 @@ impl<W: Write> Sink for WriteSink<W> {
     ghost written = { λ s. None };
 
     ghost faults = { λ s. s.faults };
+
+    ghost is_quiet = { true };
 
     fn write(&mut self, buf: &[u8]) -> Result<usize, SinkError>
         ensures fits { IfOk result (λ n. n ≤ length buf.now) }

@@ -1,4 +1,4 @@
-ghost use Rattle.std.specs.Prelude.{◌≡◌, ◌<◌, ◌≤◌, ◌^◌, ◌⊎◌, ◌+◌, ◌++◌, List, [], ℕ, Some, length, vec_len, IfOk, OnOk, OnErr, IfSome, IsErrOf};
+ghost use Rattle.std.specs.Prelude.{◌≡◌, ◌<◌, ◌≤◌, ◌^◌, ◌⊎◌, ◌+◌, ◌++◌, List, [], ℕ, Some, true, length, vec_len, IfOk, OnOk, OnErr, IfSome, IsErrOf};
 ghost use Rattle.std.specs.Io.KnownBytes.{Consumes, IsAtEnd, Appends};
 ghost use Rattle.av1_rec.specs.Told.{Rose, LosesCount, Prefixed};
 ghost use Rattle.av1_rec.specs.declared.program.transfer.ReadError.TheVariants.{OutOfMemory, Fault};
@@ -43,8 +43,8 @@ fn read_by<S: Source>(alloc: Global, source: &mut S, piece: &mut [u8]) -> Result
     ensures long { IfOk result (λ text. vec_len text ≤ 2 ^ 28) }
     ensures too_long { IsErrOf result ReadError.TooLong
         → LosesCount (S.left source.old) (S.left source.new) (2 ^ 28 + 1) }
-    ensures quiet { OnOk result (S.faults source.new ≡ S.faults source.old) }
-    ensures quiet_too_long { IsErrOf result ReadError.TooLong
+    ensures quiet { S.is_quiet ≡ true → OnOk result (S.faults source.new ≡ S.faults source.old) }
+    ensures quiet_too_long { S.is_quiet ≡ true → IsErrOf result ReadError.TooLong
         → S.faults source.new ≡ S.faults source.old }
     ensures kept { S.faults source.old ≤ S.faults source.new }
     ensures fault { IsErrOf result ReadError.Fault
@@ -72,8 +72,8 @@ pub fn read_text<S: Source>(alloc: Global, source: &mut S) -> Result<Vec<u8>, Re
         → LosesCount (S.left source.old) (S.left source.new) (2 ^ 28 + 1) }
     ensures longer { IsErrOf result ReadError.TooLong
         → IfSome (S.left source.old) (λ left. 2 ^ 28 < length left) }
-    ensures quiet { OnOk result (S.faults source.new ≡ S.faults source.old) }
-    ensures quiet_too_long { IsErrOf result ReadError.TooLong
+    ensures quiet { S.is_quiet ≡ true → OnOk result (S.faults source.new ≡ S.faults source.old) }
+    ensures quiet_too_long { S.is_quiet ≡ true → IsErrOf result ReadError.TooLong
         → S.faults source.new ≡ S.faults source.old }
     ensures kept { S.faults source.old ≤ S.faults source.new }
     ensures fault { IsErrOf result ReadError.Fault
@@ -93,7 +93,7 @@ fn zeros(alloc: Global, size: usize) -> Result<Vec<u8>, AllocError>
 pub fn write_all<K: Sink>(sink: &mut K, bytes: &[u8]) -> Result<(), SinkError>
     ensures written { OnOk result (Appends (K.written sink.old) (K.written sink.new) bytes.now) }
     ensures prefix { OnErr result (Prefixed (K.written sink.old) (K.written sink.new) bytes.now) }
-    ensures quiet { OnOk result (K.faults sink.new ≡ K.faults sink.old) }
+    ensures quiet { K.is_quiet ≡ true → OnOk result (K.faults sink.new ≡ K.faults sink.old) }
     ensures kept { K.faults sink.old ≤ K.faults sink.new }
     ensures failed { IsErrOf result SinkError.Failed
         → Rose (K.faults sink.old) (K.faults sink.new) }
