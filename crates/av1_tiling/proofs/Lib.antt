@@ -20,6 +20,7 @@ pub mod UnitAlign
 pub mod UnitTiles
 pub mod TilePlaces
 pub mod TileMotions
+pub mod Infos
 pub mod ViewPlaces
 pub mod MadeFor
 pub mod Decided

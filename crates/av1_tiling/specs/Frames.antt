@@ -26,6 +26,7 @@ use Rattle.av1_tiling.specs.FitsUnits.{FitsUnits}
 use Rattle.av1_tiling.specs.TileRects.{units_rect, superblock_columns, superblock_rows, samples_rect, motion_rect, tile_superblock, tile_luma, tile_blocks, block_columns, block_rows}
 pub use Rattle.av1_tiling.specs.Parameters.{Parameters}
 use Rattle.av1_tiling.specs.Restoration.{Units, layouts_of}
+use Rattle.av1_tiling.specs.UnitInfos.{blank_infos}
 use Rattle.av1_tiling.specs.UnitSizes.{AreUnitsFor, start_units}
 use Rattle.av1_tiling.specs.declared.part_place.PartPlace.{PartPlace}
 use Rattle.av1_tiling.specs.Views.{PlaneView, Part, TileState, View, IsFullTable}
@@ -253,6 +254,7 @@ tile_state s superblock sb_size_log2 width height =
       input_qres = s.input_qres;
       deblock = s.deblock;
       segmentation = s.segmentation;
+      coded_block_info = blank_infos (width / 4) (height / 4);
       rec = frame_parts s.rec (samples_rect superblock sb_size_log2 width height);
       places = part_places s.rec (samples_rect superblock sb_size_log2 width height);
       units = unit_parts s.restoration superblock (div_ceil width side, div_ceil height side);

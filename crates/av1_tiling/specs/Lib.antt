@@ -18,4 +18,5 @@ pub mod SgrSets
 pub mod Restoration
 pub mod UnitSizes
 pub mod UnitViews
+pub mod UnitInfos
 pub mod References

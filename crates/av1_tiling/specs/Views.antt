@@ -6,6 +6,7 @@ use Rattle.av1_plane.specs.declared.plane.PlaneConfig.{PlaneConfig}
 use Rattle.av1_plane.specs.declared.plane.Plane.{Plane}
 use Rattle.av1_plane.specs.declared.frame.Frame.{Frame}
 use Rattle.av1_block.specs.declared.block.Block.{Block}
+use Rattle.av1_block.specs.declared.coded_block_info.CodedBlockInfo.{CodedBlockInfo}
 use Rattle.av1_block.specs.declared.me_stats.MEStats.{MEStats}
 use Rattle.av1_block.specs.declared.restoration_unit.RestorationUnit.{RestorationUnit}
 use Rattle.av1_plane.specs.declared.tile_rect.TileRect.{TileRect}
@@ -71,9 +72,9 @@ abbrev pub part_with_entries : {E : Type 0} → Part E → List E → Part E
 part_with_entries p entries = record p { entries = refilled p.entries entries }
 
 -- the part of a frame's state that one tile is coded from: the place and the sides of the tile, the input, copies of the
--- states of deblocking and segmentation and of how restoration units lie, and the tile's samples, restoration units and
--- motion records, which are put back, with the places of the samples in the frame's planes and the sides of the tables
--- of motion records
+-- states of deblocking and segmentation and of how restoration units lie, what is known of the tile's coded units, and
+-- the tile's samples, restoration units and motion records, which are put back, with the places of the samples in the
+-- frame's planes and the sides of the tables of motion records
 pub record TileState : Type 0 where
   pub superblock : ℕ × ℕ
   pub sb_size_log2 : ℕ
@@ -88,6 +89,7 @@ pub record TileState : Type 0 where
   pub input_qres : PlaneView
   pub deblock : DeblockState
   pub segmentation : SegmentationState
+  pub coded_block_info : Rows CodedBlockInfo
   pub rec : Three (Part ℤ)
   pub places : Three PartPlace
   pub units : Three (Part RestorationUnit)

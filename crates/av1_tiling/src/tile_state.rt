@@ -10,12 +10,13 @@ use crate::tile_motion::TileMotion;
 use crate::tile_restoration_plane::TileRestorationPlane;
 use crate::tile_restoration_state::TileRestorationState;
 use crate::tile_restoration_state_mut::TileRestorationStateMut;
-use av1_block::{Cut, FrameMEStats, RestorationUnit};
+use av1_block::{Cut, FrameMEStats, MiTileState, RestorationUnit};
 use av1_plane::{Frame, OutOfMemory, Pixel, Plane, PlaneSuperBlockOffset, Three, TileRect};
 use std::alloc::Global;
 use std::marker::Model;
 use std::sync::Arc;
 
+mod block_info;
 mod views;
 
 /// What a tile is coded from, beside its blocks: its place and sides, the whole input, and the
@@ -40,6 +41,8 @@ pub struct TileStateMut<T: Pixel> {
     pub input_qres: Arc<Plane<T>>,
     pub deblock: DeblockState,
     pub segmentation: SegmentationState,
+    /// What is known of the tile's coded units of 4 by 4 luma samples.
+    pub coded_block_info: MiTileState,
     rec: Three<Cut<T>>,
     places: Three<PartPlace>,
     units: Three<Cut<RestorationUnit>>,
@@ -68,6 +71,7 @@ impl<T: Pixel> Model for TileStateMut<T> {
       input_qres = view_plane T.number (arc_value t.input_qres);
       deblock = t.deblock;
       segmentation = t.segmentation;
+      coded_block_info = t.coded_block_info;
       rec = view_cuts T.number t.rec;
       places = t.places;
       units = view_units t.units;
@@ -247,6 +251,7 @@ impl<T: Pixel> TileStateMut<T> {
             luma_cfg.width / 4,
             luma_cfg.height / 4,
         )?;
+        let coded_block_info = MiTileState::new(alloc, width / 4, height / 4)?;
         Ok(TileStateMut {
             sbo,
             sb_size_log2,
@@ -261,6 +266,7 @@ impl<T: Pixel> TileStateMut<T> {
             input_qres: Arc::try_clone(&fs.input_qres)?,
             deblock: fs.deblock,
             segmentation: fs.segmentation,
+            coded_block_info,
             rec,
             places: part_places(&fs.rec, luma),
             units,

@@ -6,6 +6,7 @@ use Rattle.av1_plane.specs.declared.tile_rect.TileRect.{TileRect}
 use Rattle.av1_plane.specs.declared.three.Three.{Three}
 use Rattle.av1_tiling.specs.Frames.{State, AreMotionTables, PartFits, frame_parts, part_places, unit_parts, motion_parts}
 use Rattle.av1_tiling.specs.Restoration.{layouts_of}
+use Rattle.av1_tiling.specs.UnitInfos.{blank_infos}
 use Rattle.av1_tiling.specs.TileRects.{samples_rect, motion_rect}
 use Rattle.av1_tiling.specs.Views.{PlaneView, view_frame, view_plane}
 use Rattle.av1_tiling.proofs.Fits.{fits_y, fits_u, fits_v, motion_sides, motion_across, motion_down}
@@ -91,6 +92,8 @@ returns g c =
     let me_stats = c.in_ok-me_stats.ensures.parts ∙ (λ i. motion_parts (tables i) (motion i)) in
     let cols = c.in_ok-me_stats.ensures.cols ∙ ap (λ (f : Three PlaneView). f.y.cfg.width / 4) frame_2 in
     let rows = c.in_ok-me_stats.ensures.rows ∙ ap (λ (f : Three PlaneView). f.y.cfg.height / 4) frame_2 in
+    let info = c.in_ok-coded_block_info.ensures in
+    let infos : c.in_ok-coded_block_info.coded_block_info ≡ blank_infos (width / 4) (height / 4) = λ i. record { entries = info.infos i; cols = info.cols i; rows = info.rows i } in
     λ i. record {
       superblock = superblock;
       sb_size_log2 = c.args.sb_size_log2;
@@ -105,6 +108,7 @@ returns g c =
       input_qres = qres i;
       deblock = ap (λ (s : State). s.deblock) view i;
       segmentation = ap (λ (s : State). s.segmentation) view i;
+      coded_block_info = infos i;
       rec = rec i;
       places = places i;
       units = unit_cuts i;
