@@ -1,8 +1,8 @@
-ghost use Rattle.std.specs.Prelude.{◌≡◌, ◌∷◌, [], Some, IfOk};
+ghost use Rattle.std.specs.Prelude.{◌≡◌, ◌∷◌, ◌%◌, [], Some, IfOk};
 ghost use Rattle.av1_tiling.specs.Frames.{IsFrame, IsStateFor};
 
-use super::{CodeError, Delivered, Gate, GroupError, TileCoder, TileTable};
-use crate::workers::{all_contexts, code_tiles};
+use super::{CodeError, Delivered, Gate, GroupError, TileCoder, TileTable, encode_tile_group};
+use crate::workers::all_contexts;
 use av1_block::FrameBlocks;
 use av1_plane::{ChromaSampling, Frame, FrameAlloc, Plane};
 use av1_tiling::{
@@ -23,6 +23,22 @@ impl TileCoder<u8> for Seven {
     #[tactic(auto, using(crate::proofs::Views::same_rects))]
     fn code(&self, alloc: Global, _ctx: &mut TileContextMut<u8>) -> Result<Vec<u8>, CodeError> {
         match Vec::from_slice(alloc, &[7]) {
+            Ok(bytes) => Ok(bytes),
+            Err(_) => Err(CodeError::OutOfMemory),
+        }
+    }
+}
+
+// Leaves each view as it is, and answers the column of its first superblock.
+struct Columns;
+
+impl TileCoder<u8> for Columns {
+    ghost meaning = { λ c v. Some (v.ts.superblock.0 % 256 ∷ [], v) };
+
+    #[tactic(auto, using(crate::proofs::Views::same_rects))]
+    fn code(&self, alloc: Global, ctx: &mut TileContextMut<u8>) -> Result<Vec<u8>, CodeError> {
+        let column = (ctx.ts.sbo.0.x % 256) as u8;
+        match Vec::from_slice(alloc, &[column]) {
             Ok(bytes) => Ok(bytes),
             Err(_) => Err(CodeError::OutOfMemory),
         }
@@ -167,13 +183,14 @@ fn zero_state(alloc: Global, fi: &FrameInvariants<u8>) -> Result<FrameState<u8>,
     Ok(FrameState::with_source(alloc, fi, input, half, quarter)?)
 }
 
+// Two workers answer the same whichever tile's claimer waits for the two other tiles to be claimed.
 #[test]
 fn gate_two_workers(rt: HostRuntime) -> Result<(), Fail> {
     let alloc = rt.alloc();
     let fi = three_tiles(alloc)?;
-    let fs = zero_state(alloc, &fi)?;
-    let blocks = FrameBlocks::new(alloc, 48, 16)?;
     for hold in 0..3 {
+        let mut fs = zero_state(alloc, &fi)?;
+        let mut blocks = FrameBlocks::new(alloc, 48, 16)?;
         let gate = Holds {
             hold,
             seen: [
@@ -182,10 +199,11 @@ fn gate_two_workers(rt: HostRuntime) -> Result<(), Fail> {
                 AtomicUsize::new(0),
             ],
         };
-        let tiling = &fi.sequence.tiling;
-        let tiles = code_tiles(&rt, alloc, tiling, &fs, &blocks, &Seven, 2, &gate)?;
-        assert_eq!(rt; tiles.len(), 3);
+        let group = encode_tile_group(&rt, alloc, &fi, &mut fs, &mut blocks, &Columns, 2, &gate)?;
         assert_eq!(rt; (gate.times(0), gate.times(1), gate.times(2)), (1, 1, 1));
+        assert_eq!(rt; group.as_slice(), [0, 0, 0, 0, 1, 2].as_slice());
+        assert_eq!(rt; fs.deblock.levels, [5; 4]);
+        assert_eq!(rt; fs.context_update_tile_id, 2);
     }
     Ok(())
 }

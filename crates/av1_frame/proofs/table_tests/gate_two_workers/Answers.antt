@@ -1,13 +1,11 @@
-use Rattle.std.proofs.Common.{◌≡◌, sym, ap, subst, ◌∙◌}
-use Rattle.av1_tiling.specs.Frames.{Parameters, IsTilingOf}
-use Rattle.av1_tiling.proofs.MadeFor.{tiling_of}
+use Rattle.std.proofs.Common.{sym, ◌∙◌}
 use Rattle.av1_frame.proofs.table_tests.gate_two_workers.Goals as goal
 
-pub code_tiles-requires-clause-made_for : goal.code_tiles-requires-clause-made_for
-code_tiles-requires-clause-made_for _ c κs =
-    let fs = c.in_ok-fs.fs in
-    let blocks = c.in_ok-blocks.blocks in
+pub encode_tile_group-requires-clause-made_for : goal.encode_tile_group-requires-clause-made_for
+encode_tile_group-requires-clause-made_for _ c κs =
     let frame = c.in_ok-fi.ensures in
     let table = c.in_ok-blocks.ensures in
-    subst (λ t. IsTilingOf t fs blocks.cols blocks.rows) (sym (ap (λ (p : Parameters). p.sequence.tiling) c.fi.view_is))
-    (tiling_of 256 c.in_ok-fi.fi fs blocks.cols blocks.rows frame.frame c.in_ok-fs.ensures (table.cols ∙ sym frame.columns) (table.rows ∙ sym frame.rows))
+    record {
+      state = c.in_ok-fs.ensures;
+      blocks = record { columns = table.cols ∙ sym frame.columns; rows = table.rows ∙ sym frame.rows };
+    }
