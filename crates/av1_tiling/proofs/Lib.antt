@@ -22,6 +22,7 @@ pub mod TilePlaces
 pub mod TileMotions
 pub mod Infos
 pub mod ViewPlaces
+pub mod LentViews
 pub mod MadeFor
 pub mod Decided
 pub mod OtherViews

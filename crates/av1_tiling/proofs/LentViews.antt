@@ -1,0 +1,108 @@
+-- What a tile that is cut from a frame can lend: its restoration units lie in the frame's tables of them, and the frame's
+-- input stores the rectangles of its samples.
+use Rattle.std.proofs.Common.{◌≡◌, ℕ, pos, ◌+◌, ◌*◌, ◌^◌, ◌<◌, ◌≤◌, Bool, true, false, List, sym, ap, ◌∙◌, subst, arith}
+use Rattle.std.specs.Prelude.{◌==◌, ◌||◌, if◌then◌else◌}
+use Rattle.std.specs.Int.{div_ceil}
+use Rattle.std.proofs.lemmas.Bool.{ne_eqb}
+use Rattle.std.proofs.lemmas.Int.{ints}
+use Rattle.av1_plane.specs.Area.{decimated_tile}
+use Rattle.av1_plane.specs.Place.{IsInPlane}
+use Rattle.av1_plane.specs.Regions.{StoresRect}
+use Rattle.av1_plane.specs.declared.plane.PlaneConfig.{PlaneConfig}
+use Rattle.av1_plane.specs.declared.three.Three.{Three}
+use Rattle.av1_plane.specs.declared.tile_rect.TileRect.{TileRect}
+use Rattle.av1_block.specs.declared.block.Block.{Block}
+use Rattle.av1_tiling.specs.declared.part_place.PartPlace.{PartPlace}
+use Rattle.av1_tiling.specs.declared.restoration_plane.RestorationPlaneConfig.{RestorationPlaneConfig}
+use Rattle.av1_tiling.specs.declared.tiling_info.TilingInfo.{TilingInfo}
+use Rattle.av1_tiling.specs.Frames.{Parameters, State, IsStateFor, IsTilingOf, LiesInFrame, PartFits, layouts, no_rect, shifted_rect, plane_part, plane_part_place, unit_part, tile_state, view_of}
+use Rattle.av1_tiling.specs.Grid.{IsBuiltSide}
+use Rattle.av1_tiling.specs.Restoration.{Units, HasLayout}
+use Rattle.av1_tiling.specs.TileRects.{samples_rect, tile_superblock, tile_luma}
+use Rattle.av1_tiling.specs.TileViews.{HoldsInput, part_area}
+use Rattle.av1_tiling.specs.UnitViews.{LieInTable, HasUnitPlaces}
+use Rattle.av1_tiling.specs.Views.{PlaneView}
+use Rattle.av1_tiling.proofs.Fits.{fits_y, fits_u, fits_v}
+use Rattle.av1_tiling.proofs.ViewPlaces.{tile_fits_y, tile_fits_u, tile_fits_v}
+
+-- the units that a tile covers lie in a table of the layout's sides
+units_in_table : (cfg : RestorationPlaneConfig) (u : Units) → HasLayout cfg u → (superblock superblocks : ℕ × ℕ) → LieInTable u.cfg (unit_part u superblock superblocks).rect
+units_in_table cfg u made superblock superblocks =
+    let r = (unit_part u superblock superblocks).rect in
+    let cols : u.cols ≡ u.cfg.cols = made.cols ∙ sym (ap (λ (c : RestorationPlaneConfig). c.cols) made.layout) in
+    let rows : u.rows ≡ u.cfg.rows = made.rows ∙ sym (ap (λ (c : RestorationPlaneConfig). c.rows) made.layout) in
+    let across : r.x + r.width ≤ u.cols = omega arith in
+    let down : r.y + r.height ≤ u.rows = omega arith in
+    record { across = omega arith; down = omega arith }
+
+-- a plane with both sides isn't empty
+has_area : (m n : ℕ) → 0 < m → 0 < n → ((m == 0) || (n == 0)) ≡ false
+has_area m n l k =
+    let wide : (m == 0) ≡ false = ne_eqb m 0 (λ e. absurd (omega arith)) in
+    let high : (n == 0) ≡ false = ne_eqb n 0 (λ e. absurd (omega arith)) in
+    λ i. wide i || high i
+
+-- a rectangle that the stored rows hold is in the plane when it is counted from the origin
+in_plane : (cfg : PlaneConfig) (r : TileRect) → cfg.xorigin + r.x + r.width ≤ cfg.stride → cfg.yorigin + r.y + r.height ≤ cfg.alloc_height
+    → IsInPlane cfg (record { x = pos r.x; y = pos r.y; width = r.width; height = r.height })
+in_plane cfg r across down = record { left = omega (arith, ints); right = omega (arith, ints); top = omega (arith, ints); bottom = omega (arith, ints) }
+
+-- a part that is stored in a plane with samples is in the plane
+either_stored : (empty : Bool) (cfg : PlaneConfig) (r : TileRect) → empty ≡ false
+    → (let stored = if empty then no_rect else shifted_rect cfg.xorigin cfg.yorigin r in stored.x + stored.width ≤ cfg.stride)
+    → (let stored = if empty then no_rect else shifted_rect cfg.xorigin cfg.yorigin r in stored.y + stored.height ≤ cfg.alloc_height)
+    → (let stored = if empty then no_rect else shifted_rect cfg.xorigin cfg.yorigin r in
+    let place : PartPlace = if empty then record { cfg = cfg; x = pos 0; y = pos 0 } else record { cfg = cfg; x = pos r.x; y = pos r.y } in
+    IsInPlane cfg (record { x = place.x; y = place.y; width = stored.width; height = stored.height }))
+either_stored true cfg r e across down = absurd (let f : true ≡ false = e in cc)
+either_stored false cfg r e across down = in_plane cfg r across down
+
+-- The input stores the part of a plane that luma samples cover, if it has the layout of the reconstruction.
+input_stores : (input rec : PlaneView) (luma : TileRect) → input.cfg ≡ rec.cfg → PartFits rec.cfg luma → StoresRect input.cfg (part_area (plane_part_place rec.cfg luma) (plane_part rec luma))
+input_stores input rec luma same fits =
+    subst (λ cfg. StoresRect cfg (part_area (plane_part_place rec.cfg luma) (plane_part rec luma))) (sym same)
+    (λ wide high. either_stored ((rec.cfg.width == 0) || (rec.cfg.height == 0)) rec.cfg (decimated_tile luma rec.cfg.xdec rec.cfg.ydec) (has_area rec.cfg.width rec.cfg.height wide high) fits.columns fits.rows)
+
+-- the tiles that are cut from a frame's state
+module _ (p : Parameters) (s : State) (made : IsStateFor p s) where
+  -- the input has the layouts of the reconstruction
+  same_layouts : layouts s.input ≡ layouts s.rec
+  same_layouts = made.input ∙ sym made.rec
+
+  -- the input stores a tile's samples where the reconstruction does
+  input_holds : (superblock : ℕ × ℕ) (side width height : ℕ)
+      → (let luma = samples_rect superblock side width height in PartFits s.rec.y.cfg luma → PartFits s.rec.u.cfg luma → PartFits s.rec.v.cfg luma → HoldsInput (tile_state s superblock side width height))
+  input_holds superblock side width height y u v =
+      let luma = samples_rect superblock side width height in
+      record {
+        y = input_stores s.input.y s.rec.y luma (ap (λ (l : Three PlaneConfig). l.y) same_layouts) y;
+        u = input_stores s.input.u s.rec.u luma (ap (λ (l : Three PlaneConfig). l.u) same_layouts) u;
+        v = input_stores s.input.v s.rec.v luma (ap (λ (l : Three PlaneConfig). l.v) same_layouts) v;
+      }
+
+  -- The units of a tile of the frame lie in the frame's tables of units.
+  pub tile_has_unit_places : (superblock : ℕ × ℕ) (side width height : ℕ) → HasUnitPlaces (tile_state s superblock side width height)
+  tile_has_unit_places superblock side width height =
+      let superblocks : ℕ × ℕ = (div_ceil width (2 ^ side), div_ceil height (2 ^ side)) in
+      record {
+        y = units_in_table _ s.restoration.y made.restoration.y superblock superblocks;
+        u = units_in_table _ s.restoration.u made.restoration.u superblock superblocks;
+        v = units_in_table _ s.restoration.v made.restoration.v superblock superblocks;
+      }
+
+  -- The frame's input stores the rectangles of the samples of a tile that lies in the frame.
+  pub tile_holds_input : (superblock : ℕ × ℕ) (side width height : ℕ) → LiesInFrame s superblock side width height → IsBuiltSide side → HoldsInput (tile_state s superblock side width height)
+  tile_holds_input superblock side width height lies built =
+      input_holds superblock side width height (fits_y s superblock side width height lies built) (fits_u s superblock side width height lies built) (fits_v s superblock side width height lies built)
+
+  -- the starting view of a tile of the frame's tiling
+  module _ (t : TilingInfo) (blocks : List Block) (cols rows : ℕ) (tiling : IsTilingOf t s cols rows) (n : ℕ) (l : n < t.cols * t.rows) where
+    -- The units of the view of each tile lie in the frame's tables of units.
+    pub view_has_unit_places : HasUnitPlaces (view_of t s blocks n).ts
+    view_has_unit_places = tile_has_unit_places (tile_superblock t n) t.sb_size_log2 (tile_luma t n).width (tile_luma t n).height
+
+    -- The frame's input stores the rectangles of the samples of each tile's view.
+    pub view_holds_input : HoldsInput (view_of t s blocks n).ts
+    view_holds_input =
+        input_holds (tile_superblock t n) t.sb_size_log2 (tile_luma t n).width (tile_luma t n).height
+        (tile_fits_y t s blocks cols rows tiling n l) (tile_fits_u t s blocks cols rows tiling n l) (tile_fits_v t s blocks cols rows tiling n l)
