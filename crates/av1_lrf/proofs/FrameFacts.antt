@@ -171,6 +171,12 @@ luma_layout w h xpad ypad =
     let eh : h ≡ h / 2 ^ 0 = omega arith in
     ap (λ (n : ℕ). plane_layout n h 0 0 xpad ypad) ew ∙ ap (λ (n : ℕ). plane_layout (w / 2 ^ 0) n 0 0 xpad ypad) eh
 
+-- the luma plane of a frame has the frame's picture
+pub luma_plane_picture : {X : Type 0} → (number : X → ℤ) (limit : ℕ) (p : Parameters) (a : Frame X) → IsFrame limit p → IsInputFor p (view_frame number a) → HasStripePicture number (2 ^ p.sequence.bit_depth) (visible p.width 0) (visible p.height 0) a.planes.y
+luma_plane_picture number limit p a f h =
+    plane_picture number (2 ^ p.sequence.bit_depth) p.width p.height 0 0 88 88 a.planes.y (ap (λ (t : Three PlaneConfig). t.y) h.layout ∙ luma_layout (rounded p.width) (rounded p.height) 88 88)
+    (visible_side p.width 0 (omega arith) f.width.0 f.width.1) (visible_side p.height 0 (omega arith) f.height.0 f.height.1) h.y_range
+
 -- at 4:0:0 there is no decimation
 no_chroma : IsSome (decimation Cs400) → ⊥
 no_chroma h = cc

@@ -22,3 +22,4 @@ pub mod ShiftFacts
 pub mod StripesFacts
 pub mod FrameFacts
 pub mod StopFacts
+pub mod SmallFrames
