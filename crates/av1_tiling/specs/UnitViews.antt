@@ -159,7 +159,7 @@ pub record LieInTable (layout : RestorationPlaneConfig) (rect : TileRect) : Type
   pub across : rect.x + rect.width ≤ layout.cols
   pub down : rect.y + rect.height ≤ layout.rows
 
--- those of all planes do
+-- a tile's units of all planes lie in the tables that their layouts name
 pub record HasUnitPlaces (t : TileState) : Type 0 where
   pub y : LieInTable t.unit_layouts.y t.units.y.rect
   pub u : LieInTable t.unit_layouts.u t.units.u.rect

@@ -133,7 +133,7 @@ pub record SameRect {E : Type 0} (a b : Part E) : Type 0 where
   pub table_cols : b.table_cols ≡ a.table_cols
   pub length : length b.entries ≡ length a.entries
 
--- after may differ from before in all but its rectangles and the sides of its tables
+-- after may differ from before in all but its rectangles and the sides of the tables that its parts were cut from
 pub record SameShape (before after : View) : Type 0 where
   pub y : SameRect before.ts.rec.y after.ts.rec.y
   pub u : SameRect before.ts.rec.u after.ts.rec.u
