@@ -64,6 +64,10 @@ cut_rect c = record { x = c.x; y = c.y; width = c.table.cols; height = c.table.r
 abbrev pub cut_table_cols : {E : Type 0} → Cut E → ℕ
 cut_table_cols c = c.table_cols
 
+-- the table of a cut: its entries, and the sides of its rectangle
+abbrev pub cut_table : {E : Type 0} → Cut E → Rows E
+cut_table c = c.table
+
 -- the cut with other entries
 abbrev pub recut : {E : Type 0} → Cut E → List E → Cut E
 recut c entries = record c { table = with_entries c.table entries }

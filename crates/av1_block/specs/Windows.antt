@@ -13,6 +13,20 @@ abbrev pub cut_window : TileRect → (frame_cols frame_rows : ℕ) → Window
 cut_window rect frame_cols frame_rows =
     record { left = 0; top = 0; x = rect.x; y = rect.y; cols = rect.width; rows = rect.height; frame_cols = frame_cols; frame_rows = frame_rows }
 
+-- the same, as far as the frame's table goes
+abbrev pub clipped_window : TileRect → (frame_cols frame_rows : ℕ) → Window
+clipped_window rect frame_cols frame_rows =
+    record {
+      left = 0;
+      top = 0;
+      x = rect.x;
+      y = rect.y;
+      cols = min rect.width (frame_cols - rect.x);
+      rows = min rect.height (frame_rows - rect.y);
+      frame_cols = frame_cols;
+      frame_rows = frame_rows;
+    }
+
 -- the part of a window from column x of row y on, of these sides as far as the window goes
 abbrev pub window_part : Window → (x y cols rows : ℕ) → Window
 window_part w x y cols rows =

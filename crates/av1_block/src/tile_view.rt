@@ -71,6 +71,30 @@ impl<'a, E: Copy> TileView<'a, E> {
         TileView::over(&cut.table, window)
     }
 
+    /// The view at the cut's rectangle of a frame's table of these sides, with the cut's entries, as
+    /// far as that table goes.
+    pub fn from_cut_clipped(
+        cut: &'a Cut<E>,
+        frame_cols: usize,
+        frame_rows: usize,
+    ) -> TileView<'a, E>
+        requires left { (cut_rect cut.now).x ≤ frame_cols }
+        requires top { (cut_rect cut.now).y ≤ frame_rows }
+        ensures entries { view_entries result ≡ cut_entries cut.now }
+        ensures step { view_step result ≡ (cut_rect cut.now).width }
+        ensures x { view_x result ≡ (cut_rect cut.now).x }
+        ensures y { view_y result ≡ (cut_rect cut.now).y }
+        ensures cols { view_cols result
+            ≡ min (cut_rect cut.now).width (frame_cols - (cut_rect cut.now).x) }
+        ensures rows { view_rows result
+            ≡ min (cut_rect cut.now).height (frame_rows - (cut_rect cut.now).y) }
+        ensures frame_cols { view_frame_cols result ≡ frame_cols }
+        ensures frame_rows { view_frame_rows result ≡ frame_rows }
+    {
+        let window = Window::of_cut_clipped(cut.rect(), frame_cols, frame_rows);
+        TileView::over(&cut.table, window)
+    }
+
     pub(crate) fn over(table: &'a Table<E>, window: Window) -> TileView<'a, E>
         requires across { window.left + window.cols ≤ table.now.cols }
         requires down { window.top + window.rows ≤ table.now.rows }

@@ -18,9 +18,9 @@ impl<'a, E: Copy> TileViewMut<'a, E> {
     ghost use Rattle.std.specs.Prelude.{◌≡◌, ◌-◌, ◌≤◌, min, [], length, take, drop};
     ghost use Rattle.std.specs.Borrow.{sem, follows, Lends, Array};
     ghost use mir.Syntax.{named};
-    ghost use Rattle.av1_block.specs.Windows.{frame_window, cut_window, window_part};
+    ghost use Rattle.av1_block.specs.Windows.{frame_window, cut_window, clipped_window, window_part};
     ghost use Rattle.av1_block.specs.Tables.{view_entries, view_step, view_x, view_y, view_cols, view_rows, view_frame_cols, view_frame_rows};
-    ghost use Rattle.av1_block.specs.Cut.{cut_entries, cut_rect, with_cut_table};
+    ghost use Rattle.av1_block.specs.Cut.{cut_entries, cut_rect, cut_table, with_cut_table};
     ghost use Rattle.av1_block.specs.Writing.{window, table_under, entries_under, place_under, lent_name, IsPlaced, with_run_at, with_table};
     ghost use Rattle.av1_block.specs.contracts.table.Table.{the_row as table-row};
     ghost use Rattle.av1_block.specs.contracts.cut.Cut.{the_row as cut-row};
@@ -68,6 +68,26 @@ impl<'a, E: Copy> TileViewMut<'a, E> {
         ensures placed { IsPlaced result }
     {
         let window = Window::of_cut(cut.rect(), frame_cols, frame_rows);
+        let table = &mut cut.table;
+        TileViewMut { table, window }
+    }
+
+    /// The view at the cut's rectangle of a frame's table of these sides, with the cut's entries, as
+    /// far as that table goes.
+    pub fn from_cut_clipped(
+        cut: &'a mut Cut<E>,
+        frame_cols: usize,
+        frame_rows: usize,
+    ) -> TileViewMut<'a, E>
+        requires left { (cut_rect cut.old).x ≤ frame_cols }
+        requires top { (cut_rect cut.old).y ≤ frame_rows }
+        ensures* lends { sem 𝓛 (follows (cut-row E.row) (table-row E.row)
+            cut.entry.ghost_name (lent_name result) (with_cut_table cut.old)) }
+        ensures table { table_under result ≡ cut_table cut.old }
+        ensures window { window result ≡ clipped_window (cut_rect cut.old) frame_cols frame_rows }
+        ensures placed { IsPlaced result }
+    {
+        let window = Window::of_cut_clipped(cut.rect(), frame_cols, frame_rows);
         let table = &mut cut.table;
         TileViewMut { table, window }
     }
