@@ -1,10 +1,11 @@
--- What a tile that is cut from a frame can lend: its restoration units lie in the frame's tables of them, and the frame's
--- input stores the rectangles of its samples.
-use Rattle.std.proofs.Common.{◌≡◌, ℕ, pos, ◌+◌, ◌*◌, ◌^◌, ◌<◌, ◌≤◌, Bool, true, false, List, sym, ap, ◌∙◌, subst, arith}
+-- What a tile that is cut from a frame can lend: its restoration units, motion records and blocks lie in the frame's
+-- tables of them, and the frame's input stores the rectangles of its samples.
+use Rattle.std.proofs.Common.{◌≡◌, ℕ, pos, ◌+◌, ◌-◌, ◌*◌, ◌/◌, ◌^◌, ◌<◌, ◌≤◌, Bool, true, false, List, [], min, refl, sym, ap, ◌∙◌, subst, arith}
 use Rattle.std.specs.Prelude.{◌==◌, ◌||◌, if◌then◌else◌}
 use Rattle.std.specs.Int.{div_ceil}
 use Rattle.std.proofs.lemmas.Bool.{ne_eqb}
 use Rattle.std.proofs.lemmas.Int.{ints}
+use Rattle.std.proofs.lemmas.List.{get_or-map}
 use Rattle.av1_plane.specs.Area.{decimated_tile}
 use Rattle.av1_plane.specs.Place.{IsInPlane}
 use Rattle.av1_plane.specs.Regions.{StoresRect}
@@ -12,17 +13,21 @@ use Rattle.av1_plane.specs.declared.plane.PlaneConfig.{PlaneConfig}
 use Rattle.av1_plane.specs.declared.three.Three.{Three}
 use Rattle.av1_plane.specs.declared.tile_rect.TileRect.{TileRect}
 use Rattle.av1_block.specs.declared.block.Block.{Block}
+use Rattle.av1_block.specs.declared.me_stats.MEStats.{MEStats}
+use Rattle.av1_block.specs.Rows.{Rows}
+use Rattle.av1_tiling.specs.Coded.{no_part}
 use Rattle.av1_tiling.specs.declared.part_place.PartPlace.{PartPlace}
 use Rattle.av1_tiling.specs.declared.restoration_plane.RestorationPlaneConfig.{RestorationPlaneConfig}
 use Rattle.av1_tiling.specs.declared.tiling_info.TilingInfo.{TilingInfo}
-use Rattle.av1_tiling.specs.Frames.{Parameters, State, IsStateFor, IsTilingOf, LiesInFrame, PartFits, layouts, no_rect, shifted_rect, plane_part, plane_part_place, unit_part, tile_state, view_of}
+use Rattle.av1_tiling.specs.Frames.{Parameters, State, IsStateFor, IsTilingOf, LiesInFrame, PartFits, layouts, no_rect, shifted_rect, plane_part, plane_part_place, unit_part, part_at, tile_state, view_of}
 use Rattle.av1_tiling.specs.Grid.{IsBuiltSide}
 use Rattle.av1_tiling.specs.Restoration.{Units, HasLayout}
-use Rattle.av1_tiling.specs.TileRects.{samples_rect, tile_superblock, tile_luma}
-use Rattle.av1_tiling.specs.TileViews.{HoldsInput, part_area}
+use Rattle.av1_tiling.specs.TileRects.{samples_rect, motion_rect, tile_superblock, tile_luma, block_columns, block_rows}
+use Rattle.av1_tiling.specs.TileViews.{HoldsInput, LiesInSides, motion_part_at, part_area}
 use Rattle.av1_tiling.specs.UnitViews.{LieInTable, HasUnitPlaces}
-use Rattle.av1_tiling.specs.Views.{PlaneView}
-use Rattle.av1_tiling.proofs.Fits.{fits_y, fits_u, fits_v}
+use Rattle.av1_tiling.specs.Views.{PlaneView, Part}
+use Rattle.av1_tiling.proofs.Fits.{fits_y, fits_u, fits_v, motion_across, motion_down}
+use Rattle.av1_tiling.proofs.Inside.{placed, luma_width, luma_height, blocks_are}
 use Rattle.av1_tiling.proofs.ViewPlaces.{tile_fits_y, tile_fits_u, tile_fits_v}
 
 -- the units that a tile covers lie in a table of the layout's sides
@@ -106,3 +111,28 @@ module _ (p : Parameters) (s : State) (made : IsStateFor p s) where
     view_holds_input =
         input_holds (tile_superblock t n) t.sb_size_log2 (tile_luma t n).width (tile_luma t n).height
         (tile_fits_y t s blocks cols rows tiling n l) (tile_fits_u t s blocks cols rows tiling n l) (tile_fits_v t s blocks cols rows tiling n l)
+
+    -- The blocks of the view of each tile lie in the frame's table of blocks.
+    pub view_blocks_lie : LiesInSides (view_of t s blocks n).blocks.rect (block_columns t) (block_rows t)
+    view_blocks_lie =
+        let p = placed t s cols rows tiling n l in
+        let x = (tile_superblock t n).0 * 16 in
+        let y = (tile_superblock t n).1 * 16 in
+        let rect : TileRect = record { x = x; y = y; width = min (t.tile_width_sb * 16) (block_columns t - x); height = min (t.tile_height_sb * 16) (block_rows t - y) } in
+        subst (λ (r : TileRect). LiesInSides r (block_columns t) (block_rows t)) (blocks_are t n p.six rect refl refl refl refl)
+        (record { across = omega (arith, p.across, tiling.wide); down = omega (arith, p.down, tiling.high) })
+
+    -- The motion records of the view of each tile lie in the frame's tables of them.
+    pub view_motion_lies : (i : ℕ) → i < 8 → (let state = (view_of t s blocks n).ts in LiesInSides (motion_part_at state.me_stats i).rect state.mi_cols state.mi_rows)
+    view_motion_lies i below =
+        let p = placed t s cols rows tiling n l in
+        let superblock = tile_superblock t n in
+        let luma = tile_luma t n in
+        let rect = motion_rect superblock t.sb_size_log2 luma.width luma.height in
+        let none : Rows MEStats = record { entries = []; cols = 0; rows = 0 } in
+        let lies = subst (λ (w : ℕ). LiesInFrame s superblock t.sb_size_log2 w luma.height) (luma_width t n p.six)
+        (subst (λ (h : ℕ). LiesInFrame s superblock t.sb_size_log2 (min (t.tile_width_sb * 64) (t.frame_width - superblock.0 * 64)) h) (luma_height t n p.six) p.lies) in
+        let here = ap (λ (part : Part MEStats). part.rect) (get_or-map (λ (m : Rows MEStats). part_at m.entries m.cols rect) s.frame_me_stats i none no_part (omega (arith, below, made.motion.count))) in
+        subst (λ (r : TileRect). LiesInSides r (s.rec.y.cfg.width / 4) (s.rec.y.cfg.height / 4)) (sym here)
+        (subst (λ (k : ℕ). LiesInSides (motion_rect superblock k luma.width luma.height) (s.rec.y.cfg.width / 4) (s.rec.y.cfg.height / 4)) (sym p.six)
+        (record { across = motion_across s superblock t.sb_size_log2 luma.width luma.height lies p.six; down = motion_down s superblock t.sb_size_log2 luma.width luma.height lies p.six }))

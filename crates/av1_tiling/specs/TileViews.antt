@@ -1,8 +1,6 @@
 -- What a tile's state and its context lend: each part at its place in the frame.
-use Rattle.std.specs.Prelude.{ℕ, ℤ, ◌≡◌, ◌-◌, ◌*◌, ◌^◌, ◌<◌, List, drop}
+use Rattle.std.specs.Prelude.{ℕ, ℤ, ◌≡◌, ◌+◌, ◌-◌, ◌*◌, ◌^◌, ◌≤◌, ◌<◌, List, drop, min, slice_set}
 use Rattle.std.specs.List.{slice_index_or}
-use Rattle.av1_plane.specs.declared.three.Three.{Three}
-use Rattle.av1_plane.specs.declared.plane.PlaneConfig.{PlaneConfig}
 use Rattle.av1_plane.specs.declared.region.Rect.{Rect}
 use Rattle.av1_plane.specs.declared.region.PlaneRegion.{PlaneRegion}
 use Rattle.av1_plane.specs.declared.tile.Tile.{Tile}
@@ -15,8 +13,12 @@ use Rattle.av1_plane.specs.Regions.{StoresRect}
 use Rattle.av1_block.specs.declared.me_stats.MEStats.{MEStats}
 use Rattle.av1_block.specs.declared.tile_view.TileView.{TileView}
 use Rattle.av1_block.specs.Tables.{view_entries, view_step, view_x, view_y, view_cols, view_rows, view_frame_cols, view_frame_rows}
+use Rattle.av1_block.specs.declared.tile_view_mut.TileViewMut.{TileViewMut}
+use Rattle.av1_block.specs.Rows.{Rows}
+use Rattle.av1_block.specs.Windows.{clipped_window}
+use Rattle.av1_block.specs.Writing.{window, table_under, IsPlaced}
 use Rattle.av1_tiling.specs.declared.part_place.PartPlace.{PartPlace}
-use Rattle.av1_tiling.specs.Views.{PlaneView, Part, TileState}
+use Rattle.av1_tiling.specs.Views.{PlaneView, Part, Motion, TileState, part_table, part_with_table}
 use Rattle.av1_tiling.specs.Coded.{no_part}
 
 -- the rectangle of a part of a plane, from the plane's origin
@@ -57,20 +59,43 @@ pub record HoldsInput (t : TileState) : Type 0 where
   pub u : StoresRect t.input.u.cfg (part_area t.places.u t.rec.u)
   pub v : StoresRect t.input.v.cfg (part_area t.places.v t.rec.v)
 
--- a view shows a part of a table with these sides
+-- a view shows a part of a table with these sides, as far as the table goes
 pub record ShowsTablePart {E : Type 0} (part : Part E) (table_cols table_rows : ℕ) (v : TileView E) : Type 0 where
   pub entries : view_entries v ≡ part.entries
   pub step : view_step v ≡ part.rect.width
   pub x : view_x v ≡ part.rect.x
   pub y : view_y v ≡ part.rect.y
-  pub cols : view_cols v ≡ part.rect.width
-  pub rows : view_rows v ≡ part.rect.height
+  pub cols : view_cols v ≡ min part.rect.width (table_cols - part.rect.x)
+  pub rows : view_rows v ≡ min part.rect.height (table_rows - part.rect.y)
   pub frame_cols : view_frame_cols v ≡ table_cols
   pub frame_rows : view_frame_rows v ≡ table_rows
+
+-- a view for writing borrows a part of a table with these sides, and shows it as far as the table goes
+pub record LendsTablePart {E : Type 0} (part : Part E) (table_cols table_rows : ℕ) (v : TileViewMut E) : Type 0 where
+  pub table : table_under v ≡ part_table part
+  pub window : window v ≡ clipped_window part.rect table_cols table_rows
+  pub placed : IsPlaced v
+
+-- a rectangle lies in a table of these sides: a view of a part with it shows the whole part
+pub record LiesInSides (rect : TileRect) (table_cols table_rows : ℕ) : Type 0 where
+  pub across : rect.x + rect.width ≤ table_cols
+  pub down : rect.y + rect.height ≤ table_rows
 
 -- the part of motion table i
 abbrev pub motion_part_at : List (Part MEStats) → ℕ → Part MEStats
 motion_part_at parts i = slice_index_or parts i no_part
+
+-- parts of the motion tables, with this table in place of part i's
+abbrev pub parts_with_table : List (Part MEStats) → ℕ → Rows MEStats → List (Part MEStats)
+parts_with_table parts i table = slice_set parts i (part_with_table (motion_part_at parts i) table)
+
+-- a tile's motion with this table in place of part i's
+abbrev pub with_motion_table : Motion → ℕ → Rows MEStats → Motion
+with_motion_table m i table = record m { parts = parts_with_table m.parts i table }
+
+-- a tile's state with this table of motion records in place of part i's
+abbrev pub with_motion : TileState → ℕ → Rows MEStats → TileState
+with_motion t i table = record t { me_stats = parts_with_table t.me_stats i table }
 
 -- the tile's luma samples in the frame, without those that fill its last superblocks
 abbrev pub state_rect : TileState → TileRect

@@ -1,6 +1,6 @@
 -- What a tile coder sees of a frame, as plain data: samples are numbers, and no storage is in it.
 use Rattle.std.specs.List.{AllZip}
-use Rattle.std.specs.Prelude.{ℕ, ℤ, ◌*◌, List, map, length, take, drop, ◌++◌, if◌then◌else◌, ◌==◌, ◌≡◌}
+use Rattle.std.specs.Prelude.{ℕ, ℤ, ◌*◌, List, map, length, if◌then◌else◌, ◌==◌, ◌≡◌}
 use Rattle.av1_plane.specs.declared.three.Three.{Three}
 use Rattle.av1_plane.specs.declared.plane.PlaneConfig.{PlaneConfig}
 use Rattle.av1_plane.specs.declared.plane.Plane.{Plane}
@@ -67,6 +67,12 @@ view_units t = record { y = view_cut t.y; u = view_cut t.u; v = view_cut t.v }
 abbrev pub view_cuts : {X : Type 0} → (X → ℤ) → Three (Cut X) → Three (Part ℤ)
 view_cuts number t = record { y = view_samples number t.y; u = view_samples number t.u; v = view_samples number t.v }
 
+-- a tile's parts of the tables of motion records, and the sides of these tables
+pub record Motion : Type 0 where
+  pub parts : List (Part MEStats)
+  pub mi_cols : ℕ
+  pub mi_rows : ℕ
+
 -- the part with these entries, as many as before
 abbrev pub part_with_entries : {E : Type 0} → Part E → List E → Part E
 part_with_entries p entries = record p { entries = refilled p.entries entries }
@@ -126,6 +132,22 @@ with_units t pli units =
 -- a view with these blocks
 abbrev pub with_blocks : View → List Block → View
 with_blocks v blocks = record v { blocks = part_with_entries v.blocks blocks }
+
+-- the table of a part alone
+abbrev pub part_table : {E : Type 0} → Part E → Rows E
+part_table p = record { entries = p.entries; cols = p.rect.width; rows = p.rect.height }
+
+-- the part with this table in place of its own, from the same place on
+abbrev pub part_with_table : {E : Type 0} → Part E → Rows E → Part E
+part_with_table p t = record {
+  rect = record { x = p.rect.x; y = p.rect.y; width = t.cols; height = t.rows };
+  table_cols = p.table_cols;
+  entries = t.entries;
+}
+
+-- a view with this table of blocks in place of its own
+abbrev pub with_block_table : View → Rows Block → View
+with_block_table v table = record v { blocks = part_with_table v.blocks table }
 
 -- b has the rectangle of a and as many entries
 pub record SameRect {E : Type 0} (a b : Part E) : Type 0 where

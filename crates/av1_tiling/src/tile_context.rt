@@ -1,4 +1,4 @@
-ghost use Rattle.std.specs.Prelude.{◌+◌, ◌≤◌};
+ghost use Rattle.std.specs.Prelude.{◌≤◌};
 ghost use Rattle.av1_block.specs.Cut.{cut_rect};
 
 use crate::frame_state::FrameState;
@@ -7,7 +7,7 @@ use crate::restoration_state::RestorationState;
 use crate::tile_rects::{tile_blocks, tile_height, tile_superblock, tile_width};
 use crate::tile_state::TileStateMut;
 use crate::tiling_info::TilingInfo;
-use av1_block::{Block, Cut, FrameBlocks, FrameMEStats, TileBlocks};
+use av1_block::{Block, Cut, FrameBlocks, FrameMEStats, TileBlocks, TileBlocksMut};
 use av1_plane::{Frame, OutOfMemory, Pixel};
 use std::alloc::Global;
 use std::marker::Model;
@@ -19,8 +19,8 @@ pub struct TileContextMut<T: Pixel> {
     blocks: Cut<Block>,
     frame_cols: usize,
     frame_rows: usize,
-    ghost across: { (cut_rect blocks).x + (cut_rect blocks).width ≤ frame_cols },
-    ghost down: { (cut_rect blocks).y + (cut_rect blocks).height ≤ frame_rows },
+    ghost left: { (cut_rect blocks).x ≤ frame_cols },
+    ghost top: { (cut_rect blocks).y ≤ frame_rows },
 }
 
 impl<T: Pixel> Model for TileContextMut<T> {
@@ -61,13 +61,32 @@ impl<T: Pixel> TileContextMut<T> {
 }
 
 impl<T: Pixel> TileContextMut<T> {
-    ghost use Rattle.av1_tiling.specs.TileViews.{ShowsTablePart};
+    ghost use Rattle.std.specs.Borrow.{follows, sem};
+    ghost use Rattle.av1_block.specs.Writing.{lent_name};
+    ghost use Rattle.av1_block.specs.contracts.block.Block.{the_row as block_row};
+    ghost use Rattle.av1_block.specs.contracts.table.Table.{the_row as table_row};
+    ghost use Rattle.av1_tiling.specs.TileViews.{ShowsTablePart, LendsTablePart};
+    ghost use Rattle.av1_tiling.specs.Views.{with_block_table};
+    ghost use Rattle.av1_tiling.specs.contracts.tile_context.TileContextMut.{the_row};
 
-    /// The tile's part of the frame's blocks.
+    /// The tile's part of the frame's blocks, as far as the frame's table goes.
     pub fn tb(&self) -> TileBlocks<'_>
         ensures { ShowsTablePart self.now.blocks self.now.frame_cols self.now.frame_rows result }
     {
-        TileBlocks::from_cut(&self.blocks, self.frame_cols, self.frame_rows)
+        TileBlocks::from_cut_clipped(&self.blocks, self.frame_cols, self.frame_rows)
+    }
+
+    /// The same for writing. Afterwards the context has the blocks that were left under the view,
+    /// and all else as before.
+    pub fn tb_mut(&mut self) -> TileBlocksMut<'_>
+        ensures* lends { sem 𝓛 (follows (the_row T.row T.Pixel) (table_row block_row)
+            self.entry.ghost_name (lent_name result) (with_block_table self.old)) }
+        ensures view { LendsTablePart self.old.blocks self.old.frame_cols self.old.frame_rows
+            result }
+    {
+        let cols = self.frame_cols;
+        let rows = self.frame_rows;
+        TileBlocksMut::from_cut_clipped(&mut self.blocks, cols, rows)
     }
 }
 

@@ -51,9 +51,8 @@ pub struct TileStateMut<T: Pixel> {
 }
 
 impl<T: Pixel> Model for TileStateMut<T> {
-    ghost use Rattle.std.specs.Prelude.{map};
     ghost use Rattle.std.specs.Arc.{arc_value};
-    ghost use Rattle.av1_tiling.specs.Views.{TileState, view_plane, view_frame, view_cuts, view_cut, view_units};
+    ghost use Rattle.av1_tiling.specs.Views.{TileState, view_plane, view_frame, view_cuts, view_units};
 
     ghost Value = { TileState };
 
@@ -76,7 +75,7 @@ impl<T: Pixel> Model for TileStateMut<T> {
       places = t.places;
       units = view_units t.units;
       unit_layouts = t.unit_layouts;
-      me_stats = map view_cut t.me_stats.cuts.items;
+      me_stats = t.me_stats.parts;
       mi_cols = t.me_stats.mi_cols;
       mi_rows = t.me_stats.mi_rows;
     } };
@@ -306,6 +305,6 @@ impl<T: Pixel> TileStateMut<T> {
     {
         put_frame(rec, &self.rec);
         put_units(units, &self.units);
-        put_motion(me, &self.me_stats.cuts);
+        put_motion(me, self.me_stats.cuts());
     }
 }

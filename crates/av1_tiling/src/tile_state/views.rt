@@ -7,13 +7,20 @@ ghost use Rattle.av1_tiling.specs.TileViews.{ShowsPart, ShowsParts, ShowsStored,
 
 use crate::part_place::PartPlace;
 use crate::tile_state::TileStateMut;
-use av1_block::{Cut, TileMEStats};
+use av1_block::{Cut, TileMEStats, TileMEStatsMut};
 use av1_plane::{
     BlockOffset, Pixel, Plane, PlaneBlockOffset, PlaneRegion, PlaneSuperBlockOffset, Rect,
     SuperBlockOffset, Three, Tile, TileBlockOffset, TileRect, TileSuperBlockOffset,
 };
 
 impl<T: Pixel> TileStateMut<T> {
+    ghost use Rattle.std.specs.Borrow.{sem, follows};
+    ghost use Rattle.av1_block.specs.Writing.{lent_name};
+    ghost use Rattle.av1_block.specs.contracts.me_stats.MEStats.{the_row as stats_row};
+    ghost use Rattle.av1_block.specs.contracts.table.Table.{the_row as table_row};
+    ghost use Rattle.av1_tiling.specs.TileViews.{LendsTablePart, with_motion};
+    ghost use Rattle.av1_tiling.specs.contracts.tile_state.TileStateMut.{the_row};
+
     /// The tile's part of the reconstruction.
     pub fn rec(&self) -> Tile<'_, T>
         ensures { ShowsParts T.number self.now result }
@@ -42,13 +49,26 @@ impl<T: Pixel> TileStateMut<T> {
         }
     }
 
-    /// The tile's part of the motion records for reference `i`, below 8.
+    /// The tile's part of the motion records for reference `i`, below 8, as far as the frame's
+    /// tables go.
     pub fn me_stats(&self, i: usize) -> TileMEStats<'_>
         requires { i < 8 }
         ensures { ShowsTablePart (motion_part_at self.now.me_stats i)
             self.now.mi_cols self.now.mi_rows result }
     {
         self.me_stats.view(i)
+    }
+
+    /// The same for writing. Afterwards the tile has the records that were left under the view, and
+    /// all else as before.
+    pub fn me_stats_mut(&mut self, i: usize) -> TileMEStatsMut<'_>
+        requires { i < 8 }
+        ensures* lends { sem 𝓛 (follows (the_row T.row T.Pixel) (table_row stats_row)
+            self.entry.ghost_name (lent_name result) (with_motion self.old i)) }
+        ensures view { LendsTablePart (motion_part_at self.old.me_stats i)
+            self.old.mi_cols self.old.mi_rows result }
+    {
+        self.me_stats.view_mut(i)
     }
 
     /// The tile's luma samples in the frame, without those that fill its last superblocks.

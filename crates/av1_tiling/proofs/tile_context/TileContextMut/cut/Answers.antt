@@ -103,11 +103,11 @@ invariant_of-result g c =
     let e = c.tile_blocks.ensures in
     let table = c.args.fb.now in
     let rect = sym c.in_ok-blocks.ensures.place in
-    let across : c.tile_blocks.result.x + c.tile_blocks.result.width ≤ table.cols = rw (e.x, e.width, sx) p.across in
-    let down : c.tile_blocks.result.y + c.tile_blocks.result.height ≤ table.rows = rw (e.y, e.height, sy) p.down in
+    let left : c.tile_blocks.result.x ≤ table.cols = rw (e.x, sx) (omega (arith, p.across)) in
+    let top : c.tile_blocks.result.y ≤ table.rows = rw (e.y, sy) (omega (arith, p.down)) in
     let wide : table.cols ≡ c.fb.inside.cols = sym (ap (λ (r : Rows Block). r.cols) c.fb.view_is) in
     let high : table.rows ≡ c.fb.inside.rows = sym (ap (λ (r : Rows Block). r.rows) c.fb.view_is) in
     let blocks = c.in_ok-blocks.blocks in (
-      subst (λ (n : ℕ). (cut_rect blocks).x + (cut_rect blocks).width ≤ n) wide (subst (λ (r : TileRect). r.x + r.width ≤ table.cols) rect across),
-      (subst (λ (n : ℕ). (cut_rect blocks).y + (cut_rect blocks).height ≤ n) high (subst (λ (r : TileRect). r.y + r.height ≤ table.rows) rect down), tt),
+      subst (λ (n : ℕ). (cut_rect blocks).x ≤ n) wide (subst (λ (r : TileRect). r.x ≤ table.cols) rect left),
+      (subst (λ (n : ℕ). (cut_rect blocks).y ≤ n) high (subst (λ (r : TileRect). r.y ≤ table.rows) rect top), tt),
     )
