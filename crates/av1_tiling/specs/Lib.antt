@@ -3,6 +3,7 @@ pub mod Segmentation
 pub mod Grid
 pub mod Least
 pub mod TileRects
+pub mod PlaneParts
 pub mod Views
 pub mod Motion
 pub mod Parameters
