@@ -15,6 +15,7 @@ pub mod Puts
 pub mod Coded
 pub mod Tiles
 pub mod TileViews
+pub mod LentParts
 pub mod SgrSets
 pub mod Restoration
 pub mod UnitSizes

@@ -18,6 +18,7 @@ use std::marker::Model;
 use std::sync::Arc;
 
 mod block_info;
+mod rec_mut;
 mod views;
 
 /// What a tile is coded from, beside its blocks: its place and sides, the whole input, and the
