@@ -3,6 +3,7 @@ pub mod Segmentation
 pub mod Grid
 pub mod Least
 pub mod TileRects
+pub mod PlaneParts
 pub mod Views
 pub mod Motion
 pub mod Parameters
@@ -14,6 +15,7 @@ pub mod Puts
 pub mod Coded
 pub mod Tiles
 pub mod TileViews
+pub mod LentParts
 pub mod SgrSets
 pub mod Restoration
 pub mod UnitSizes

@@ -17,6 +17,8 @@ use Rattle.av1_tiling.specs.declared.deblock_state.DeblockState.{DeblockState}
 use Rattle.av1_tiling.specs.declared.segmentation_state.SegmentationState.{SegmentationState}
 use Rattle.av1_tiling.specs.declared.restoration_plane.RestorationPlaneConfig.{RestorationPlaneConfig}
 use Rattle.av1_tiling.specs.declared.part_place.PartPlace.{PartPlace}
+use Rattle.av1_tiling.specs.declared.plane_part.PlanePart.{PlanePart}
+use Rattle.av1_tiling.specs.PlaneParts.{part_rect, part_stride, part_samples}
 
 -- a plane: its layout and the numbers of its stored samples
 pub record PlaneView : Type 0 where
@@ -55,17 +57,17 @@ pub record Part (E : Type 0) : Type 0 where
 abbrev pub view_cut : {E : Type 0} → Cut E → Part E
 view_cut c = record { rect = cut_rect c; table_cols = cut_table_cols c; entries = cut_entries c }
 
--- a cut of samples as plain data, its samples as numbers
-abbrev pub view_samples : {X : Type 0} → (X → ℤ) → Cut X → Part ℤ
-view_samples number c = record { rect = cut_rect c; table_cols = cut_table_cols c; entries = map number (cut_entries c) }
+-- a part of a plane as plain data, its samples as numbers
+abbrev pub view_samples : {X : Type 0} → (X → ℤ) → PlanePart X → Part ℤ
+view_samples number p = record { rect = part_rect p; table_cols = part_stride p; entries = map number (part_samples p) }
 
 -- the cuts of the restoration units of three planes as plain data
 abbrev pub view_units : Three (Cut RestorationUnit) → Three (Part RestorationUnit)
 view_units t = record { y = view_cut t.y; u = view_cut t.u; v = view_cut t.v }
 
--- the cuts of the samples of three planes as plain data
-abbrev pub view_cuts : {X : Type 0} → (X → ℤ) → Three (Cut X) → Three (Part ℤ)
-view_cuts number t = record { y = view_samples number t.y; u = view_samples number t.u; v = view_samples number t.v }
+-- the parts of three planes as plain data
+abbrev pub view_parts : {X : Type 0} → (X → ℤ) → Three (PlanePart X) → Three (Part ℤ)
+view_parts number t = record { y = view_samples number t.y; u = view_samples number t.u; v = view_samples number t.v }
 
 -- a tile's parts of the tables of motion records, and the sides of these tables
 pub record Motion : Type 0 where

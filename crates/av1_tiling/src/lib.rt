@@ -12,6 +12,7 @@ mod made_for;
 mod part;
 mod part_place;
 mod plane_layouts;
+mod plane_part;
 mod putting;
 mod reference_frame;
 mod reference_frames_set;

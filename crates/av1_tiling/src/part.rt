@@ -1,16 +1,18 @@
 ghost use Rattle.std.specs.Prelude.{◌≡◌, ◌<◌, ◌^◌, IfOk, All, map};
-ghost use Rattle.av1_tiling.specs.Views.{view_plane, view_samples, view_frame, view_cuts, view_cut, view_units};
+ghost use Rattle.av1_tiling.specs.Views.{view_plane, view_samples, view_frame, view_parts, view_cut, view_units};
 ghost use Rattle.av1_tiling.specs.Restoration.{units_of, units_in};
 ghost use Rattle.av1_tiling.specs.TileRects.{samples_rect, motion_rect, units_rect};
 ghost use Rattle.av1_tiling.specs.UnitViews.{HasShifts};
 ghost use Rattle.av1_tiling.specs.Frames.{stored_rect, plane_part, frame_parts, plane_part_place, part_places, motion_parts, unit_part, unit_parts, PartFits, HoldsRect, CanCutUnits};
 
 use crate::part_place::PartPlace;
+use crate::plane_part::PlanePart;
 use crate::restoration_plane::RestorationPlane;
 use crate::restoration_state::RestorationState;
 use av1_block::{Cut, FrameMEStats, MEStats, RestorationUnit};
 use av1_plane::{
-    Frame, OutOfMemory, Pixel, Plane, PlaneConfig, PlaneSuperBlockOffset, Rect, Three, TileRect,
+    Frame, OutOfMemory, Pixel, Plane, PlaneConfig, PlaneRegion, PlaneSuperBlockOffset, Rect, Three,
+    TileRect,
 };
 use std::alloc::Global;
 
@@ -71,13 +73,20 @@ fn cut_plane<T: Pixel>(
     alloc: Global,
     plane: &Plane<T>,
     luma: TileRect,
-) -> Result<Cut<T>, OutOfMemory>
+) -> Result<PlanePart<T>, OutOfMemory>
     requires { PartFits plane.now.cfg luma }
-    ensures { IfOk result (λ cut.
-        view_samples T.number cut ≡ plane_part (view_plane T.number plane.now) luma) }
+    ensures { IfOk result (λ part.
+        view_samples T.number part ≡ plane_part (view_plane T.number plane.now) luma) }
 {
-    let rect = stored_rect(&plane.cfg, luma);
-    Cut::take(alloc, &plane.samples, plane.cfg.stride, rect)
+    let TileRect { x, y, .. } = stored_rect(&plane.cfg, luma);
+    let rect = luma.decimated(plane.cfg.xdec, plane.cfg.ydec);
+    let copy = PlaneRegion::new(plane, rect.into()).scratch_copy(alloc)?;
+    Ok(PlanePart {
+        plane: copy,
+        x,
+        y,
+        stride: plane.cfg.stride,
+    })
 }
 
 /// The parts of a frame's planes that a rectangle of luma samples covers.
@@ -85,12 +94,12 @@ pub(crate) fn cut_frame<T: Pixel>(
     alloc: Global,
     frame: &Frame<T>,
     luma: TileRect,
-) -> Result<Three<Cut<T>>, OutOfMemory>
+) -> Result<Three<PlanePart<T>>, OutOfMemory>
     requires y { PartFits frame.now.planes.y.cfg luma }
     requires u { PartFits frame.now.planes.u.cfg luma }
     requires v { PartFits frame.now.planes.v.cfg luma }
-    ensures { IfOk result (λ cuts.
-        view_cuts T.number cuts ≡ frame_parts (view_frame T.number frame.now) luma) }
+    ensures { IfOk result (λ parts.
+        view_parts T.number parts ≡ frame_parts (view_frame T.number frame.now) luma) }
 {
     Ok(Three {
         y: cut_plane(alloc, &frame.planes.y, luma)?,

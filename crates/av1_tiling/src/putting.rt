@@ -2,11 +2,12 @@
 ghost use Rattle.std.specs.Prelude.{◌≡◌, All, length, map};
 ghost use Rattle.std.specs.List.{AllZip};
 ghost use Rattle.av1_block.specs.Tables.{table_entries};
-ghost use Rattle.av1_tiling.specs.Views.{view_plane, view_frame, view_samples, view_cuts, view_cut, view_units};
+ghost use Rattle.av1_tiling.specs.Views.{view_plane, view_frame, view_samples, view_parts, view_cut, view_units};
 ghost use Rattle.av1_tiling.specs.Restoration.{units_in};
 ghost use Rattle.av1_tiling.specs.Puts.{put, put_cuts, put_in, put_motion, put_units, tables_of, PartLies};
 ghost use Rattle.av1_tiling.specs.Coded.{ViewLies, AreViewsApart, AreCoded};
 
+use crate::plane_part::PlanePart;
 use crate::restoration_state::RestorationState;
 use crate::tile_context::TileContextMut;
 use av1_block::{Cut, FrameBlocks, FrameMEStats, MEStats, RestorationUnit, Table};
@@ -14,30 +15,30 @@ use av1_plane::{Frame, Pixel, Plane, Three};
 
 // Puts a part of a plane back into the plane.
 #[tactic(auto, using(crate::proofs::PutBack::puts))]
-fn put_plane<T: Pixel>(plane: &mut Plane<T>, cut: &Cut<T>)
+fn put_plane<T: Pixel>(plane: &mut Plane<T>, part: &PlanePart<T>)
     requires { PartLies (length (view_plane T.number plane.old).samples)
-        (view_samples T.number cut.now) }
+        (view_samples T.number part.now) }
     ensures cfg { plane.new.cfg ≡ plane.old.cfg }
     ensures samples { (view_plane T.number plane.new).samples
-        ≡ put (view_plane T.number plane.old).samples (view_samples T.number cut.now) }
+        ≡ put (view_plane T.number plane.old).samples (view_samples T.number part.now) }
 {
-    cut.put_back(plane.samples.as_mut_slice());
+    part.put_back(plane.samples.as_mut_slice());
 }
 
 // Puts a tile's samples back into the three planes.
-pub(crate) fn put_frame<T: Pixel>(frame: &mut Frame<T>, cuts: &Three<Cut<T>>)
+pub(crate) fn put_frame<T: Pixel>(frame: &mut Frame<T>, parts: &Three<PlanePart<T>>)
     requires y { PartLies (length (view_frame T.number frame.old).y.samples)
-        (view_samples T.number cuts.now.y) }
+        (view_samples T.number parts.now.y) }
     requires u { PartLies (length (view_frame T.number frame.old).u.samples)
-        (view_samples T.number cuts.now.u) }
+        (view_samples T.number parts.now.u) }
     requires v { PartLies (length (view_frame T.number frame.old).v.samples)
-        (view_samples T.number cuts.now.v) }
+        (view_samples T.number parts.now.v) }
     ensures { view_frame T.number frame.new
-        ≡ put_cuts (view_frame T.number frame.old) (view_cuts T.number cuts.now) }
+        ≡ put_cuts (view_frame T.number frame.old) (view_parts T.number parts.now) }
 {
-    put_plane(&mut frame.planes.y, &cuts.y);
-    put_plane(&mut frame.planes.u, &cuts.u);
-    put_plane(&mut frame.planes.v, &cuts.v);
+    put_plane(&mut frame.planes.y, &parts.y);
+    put_plane(&mut frame.planes.u, &parts.u);
+    put_plane(&mut frame.planes.v, &parts.v);
 }
 
 // Puts a part of a table back into the table.

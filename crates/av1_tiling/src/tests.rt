@@ -1,5 +1,7 @@
 ghost use Rattle.std.specs.Prelude.{◌≡◌, IfOk};
 ghost use Rattle.av1_plane.specs.declared.sampling.ChromaSampling.TheVariants.{Cs420};
+ghost use Rattle.av1_plane.specs.Region.{IsStored, IsSamePart};
+ghost use Rattle.av1_plane.specs.Tiles.{KeepsPlanes};
 ghost use Rattle.av1_tiling.specs.Frames.{IsFrame, IsStateFor};
 
 use crate::{
@@ -7,7 +9,8 @@ use crate::{
 };
 use av1_block::FrameBlocks;
 use av1_plane::{
-    ChromaSampling, Frame, FrameAlloc, OutOfMemory, Plane, PlaneSuperBlockOffset, SuperBlockOffset,
+    ChromaSampling, Frame, FrameAlloc, OutOfMemory, Plane, PlaneRegionMut, PlaneSuperBlockOffset,
+    SuperBlockOffset, TileMut,
 };
 use std::alloc::Global;
 use std::sync::Arc;
@@ -89,11 +92,16 @@ fn state_starts_blank(rt: HostRuntime) -> Result<(), Fail> {
     Ok(())
 }
 
+// The state of its last tile.
+fn last_tile(alloc: Global) -> Result<TileStateMut<u8>, Fail> {
+    let fs = blank_state(alloc, &nine_tiles(alloc)?)?;
+    let sbo = PlaneSuperBlockOffset(SuperBlockOffset { x: 2, y: 2 });
+    Ok(TileStateMut::new(alloc, &fs, sbo, 6, 32, 16)?)
+}
+
 #[test]
 fn last_tile_is_cut(rt: HostRuntime) -> Result<(), Fail> {
-    let fs = blank_state(rt.alloc(), &nine_tiles(rt.alloc())?)?;
-    let sbo = PlaneSuperBlockOffset(SuperBlockOffset { x: 2, y: 2 });
-    let tile = TileStateMut::new(rt.alloc(), &fs, sbo, 6, 32, 16)?;
+    let tile = last_tile(rt.alloc())?;
     assert_eq!(rt; (tile.sb_width, tile.sb_height), (1, 1));
     assert_eq!(rt; (tile.mi_width, tile.mi_height), (8, 4));
     let luma = tile.samples_rect(0);
@@ -101,6 +109,42 @@ fn last_tile_is_cut(rt: HostRuntime) -> Result<(), Fail> {
         (luma.x, luma.y, luma.width, luma.height),
         (216, 216, 64, 64)
     );
+    Ok(())
+}
+
+// Writes 7 into the first row, if there is one.
+fn mark(region: &mut PlaneRegionMut<'_, u8>)
+    requires { IsStored region.old }
+    ensures { IsSamePart region.old region.new }
+{
+    if !region.is_null() {
+        region.row_mut(0).fill(7);
+    }
+}
+
+// Marks U, and tells how wide it is.
+fn mark_u(tile: &mut TileMut<'_, u8>) -> usize
+    requires { IsStored tile.old.planes.u }
+    ensures { KeepsPlanes tile.old tile.new }
+{
+    mark(&mut tile.planes.u);
+    tile.planes.u.rect().width
+}
+
+#[test]
+fn writes_the_last_tile(rt: HostRuntime) -> Result<(), Fail> {
+    let mut tile = last_tile(rt.alloc())?;
+    let width = tile.with_rec_mut(
+        |rec: &mut TileMut<'_, u8>| -> usize
+            requires { IsStored rec.old.planes.u }
+            ensures { KeepsPlanes rec.old rec.new }
+        { mark_u(rec) },
+    );
+    assert_eq!(rt; width, 32);
+    assert_eq!(rt; tile.samples(0).first(), Some(&0));
+    assert_eq!(rt; tile.samples(1).first(), Some(&7));
+    let rect = *tile.rec_mut().planes.u.rect();
+    assert_eq!(rt; (rect.x, rect.y, rect.width, rect.height), (64, 64, 32, 32));
     Ok(())
 }
 

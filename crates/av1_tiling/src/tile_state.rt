@@ -2,6 +2,7 @@ use crate::deblock_state::DeblockState;
 use crate::frame_state::FrameState;
 use crate::part::{cut_frame, cut_units, motion_rect, part_places, samples_rect};
 use crate::part_place::PartPlace;
+use crate::plane_part::PlanePart;
 use crate::putting::{put_frame, put_motion, put_units};
 use crate::restoration_plane::RestorationPlaneConfig;
 use crate::restoration_state::RestorationState;
@@ -17,6 +18,7 @@ use std::marker::Model;
 use std::sync::Arc;
 
 mod block_info;
+mod rec_mut;
 mod views;
 
 /// What a tile is coded from, beside its blocks: its place and sides, the whole input, and the
@@ -43,7 +45,7 @@ pub struct TileStateMut<T: Pixel> {
     pub segmentation: SegmentationState,
     /// What is known of the tile's coded units of 4 by 4 luma samples.
     pub coded_block_info: MiTileState,
-    rec: Three<Cut<T>>,
+    rec: Three<PlanePart<T>>,
     places: Three<PartPlace>,
     units: Three<Cut<RestorationUnit>>,
     unit_layouts: Three<RestorationPlaneConfig>,
@@ -52,7 +54,7 @@ pub struct TileStateMut<T: Pixel> {
 
 impl<T: Pixel> Model for TileStateMut<T> {
     ghost use Rattle.std.specs.Arc.{arc_value};
-    ghost use Rattle.av1_tiling.specs.Views.{TileState, view_plane, view_frame, view_cuts, view_units};
+    ghost use Rattle.av1_tiling.specs.Views.{TileState, view_plane, view_frame, view_parts, view_units};
 
     ghost Value = { TileState };
 
@@ -71,7 +73,7 @@ impl<T: Pixel> Model for TileStateMut<T> {
       deblock = t.deblock;
       segmentation = t.segmentation;
       coded_block_info = t.coded_block_info;
-      rec = view_cuts T.number t.rec;
+      rec = view_parts T.number t.rec;
       places = t.places;
       units = view_units t.units;
       unit_layouts = t.unit_layouts;
@@ -95,9 +97,9 @@ impl<T: Pixel> TileStateMut<T> {
         ensures value { map T.number result.now ≡ (plane_at self.old.rec pli).entries }
     {
         match pli {
-            0 => self.rec.y.entries_mut(),
-            1 => self.rec.u.entries_mut(),
-            _ => self.rec.v.entries_mut(),
+            0 => self.rec.y.samples_mut(),
+            1 => self.rec.u.samples_mut(),
+            _ => self.rec.v.samples_mut(),
         }
     }
 }
@@ -165,9 +167,9 @@ impl<T: Pixel> TileStateMut<T> {
         ensures { map T.number result.now ≡ (plane_at self.now.rec pli).entries }
     {
         match pli {
-            0 => self.rec.y.entries(),
-            1 => self.rec.u.entries(),
-            _ => self.rec.v.entries(),
+            0 => self.rec.y.samples(),
+            1 => self.rec.u.samples(),
+            _ => self.rec.v.samples(),
         }
     }
 

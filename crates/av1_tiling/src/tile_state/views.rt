@@ -6,8 +6,9 @@ ghost use Rattle.av1_tiling.specs.Views.{view_plane, view_samples};
 ghost use Rattle.av1_tiling.specs.TileViews.{ShowsPart, ShowsParts, ShowsStored, ShowsInput, HoldsInput, ShowsTablePart, motion_part_at, part_area, state_rect, tile_first_block, tile_first_superblock};
 
 use crate::part_place::PartPlace;
+use crate::plane_part::PlanePart;
 use crate::tile_state::TileStateMut;
-use av1_block::{Cut, TileMEStats, TileMEStatsMut};
+use av1_block::{TileMEStats, TileMEStatsMut};
 use av1_plane::{
     BlockOffset, Pixel, Plane, PlaneBlockOffset, PlaneRegion, PlaneSuperBlockOffset, Rect,
     SuperBlockOffset, Three, Tile, TileBlockOffset, TileRect, TileSuperBlockOffset,
@@ -121,10 +122,10 @@ impl<T: Pixel> TileStateMut<T> {
 }
 
 // The rectangle of a part of a plane, from the plane's origin.
-fn part_rect<T: Pixel>(cut: &Cut<T>, place: &PartPlace) -> Rect
-    ensures { result ≡ part_area place.now (view_samples T.number cut.now) }
+fn part_rect<T: Pixel>(part: &PlanePart<T>, place: &PartPlace) -> Rect
+    ensures { result ≡ part_area place.now (view_samples T.number part.now) }
 {
-    let TileRect { width, height, .. } = cut.rect();
+    let TileRect { width, height, .. } = part.rect();
     Rect {
         x: place.x,
         y: place.y,
@@ -134,11 +135,11 @@ fn part_rect<T: Pixel>(cut: &Cut<T>, place: &PartPlace) -> Rect
 }
 
 // A part of a plane, at its place.
-fn part_region<'a, T: Pixel>(cut: &'a Cut<T>, place: &'a PartPlace) -> PlaneRegion<'a, T>
-    ensures { ShowsPart T.number place.now (view_samples T.number cut.now) result }
+fn part_region<'a, T: Pixel>(part: &'a PlanePart<T>, place: &'a PartPlace) -> PlaneRegion<'a, T>
+    ensures { ShowsPart T.number place.now (view_samples T.number part.now) result }
 {
-    let width = cut.rect().width;
-    PlaneRegion::from_part(cut.entries(), width, &place.cfg, part_rect(cut, place))
+    let width = part.rect().width;
+    PlaneRegion::from_part(part.samples(), width, &place.cfg, part_rect(part, place))
 }
 
 // A rectangle of a plane.

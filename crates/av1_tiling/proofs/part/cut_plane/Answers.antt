@@ -1,12 +1,11 @@
-use Rattle.std.proofs.Common.{◌≡◌, ◌*◌, length, rules}
-use Rattle.av1_tiling.proofs.Parts.{part_lies, cut_numbers}
+use Rattle.std.proofs.Common.{◌≡◌, rules, subst}
+use Rattle.av1_plane.specs.Regions.{ShowsRect}
+use Rattle.av1_plane.specs.Tiles.{plane_rect}
+use Rattle.av1_tiling.proofs.Parts.{part_copied}
 use Rattle.av1_tiling.proofs.part.cut_plane.Goals as goal
 
-pub take-requires : goal.take-requires
-take-requires g c =
-    let cfg = c.args.plane.now.cfg in
-    let long : length c.deref.result.now ≡ cfg.stride * cfg.alloc_height = search rules in
-    record { inside = rw c.stored_rect-rect.ensures (part_lies _ cfg c.args.luma c.requires long) }
-
 pub returns : goal.returns
-returns g c = rw (← c.deref.ensures.value) (cut_numbers g.T.Pixel.number c.deref.result.now _ _ _ c.stored_rect-rect.ensures c.take.result c.take.ensures.entries c.take.ensures.place c.take.ensures.cols)
+returns g c =
+    let plane = c.args.plane.now in
+    let rect : c.into.result ≡ plane_rect plane.cfg c.args.luma = search rules in
+    part_copied plane c.args.luma c.new.result (subst (λ r. ShowsRect plane.cfg plane.samples.items r c.new.result) rect c.new.ensures) g.T.Pixel.number _ c.in_ok-copy.copy c.stored_rect-x.ensures c.in_ok-copy.ensures

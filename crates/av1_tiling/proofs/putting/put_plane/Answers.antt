@@ -7,6 +7,6 @@ pub returns-clause-samples : goal.returns-clause-samples
 returns-clause-samples g c =
     let old = c.args.plane.now.samples in
     let as_long : length old.items ≡ old.len = sym old.ok.0 in
-    let long : length c.put_back.new.table ≡ old.len = search rules in
-    ap (map g.T.Pixel.number) (refilled_whole old.len old.items c.put_back.new.table as_long long ∙ c.put_back.ensures)
+    let long : length c.put_back.new.stored ≡ old.len = search rules in
+    ap (map g.T.Pixel.number) (refilled_whole old.len old.items c.put_back.new.stored as_long long ∙ c.put_back.ensures)
     ∙ rw c.as_mut_slice.ensures.value (map_with_cut g.T.Pixel.number _ _ _ _ _ _ _)

@@ -3,10 +3,10 @@ use Rattle.av1_plane.specs.Layout.{frame_layout}
 use Rattle.av1_plane.specs.declared.sampling.ChromaSampling.TheVariants.{Cs420}
 use Rattle.av1_tiling.specs.Frames.{AreMotionTables}
 use Rattle.av1_tiling.proofs.UnitTiles.{frame_units}
-use Rattle.av1_tiling.proofs.tests.last_tile_is_cut.Goals as goal
+use Rattle.av1_tiling.proofs.tests.last_tile.Goals as goal
 
 pub new-requires-clause-tile : goal.new-requires-clause-tile
-new-requires-clause-tile _ c =
+new-requires-clause-tile c =
     let p = c.in_ok-nine_tiles.field-0 in
     let fs = c.in_ok-fs.fs in
     let frame = c.in_ok-nine_tiles.ensures in
