@@ -15,13 +15,13 @@ pub struct TileViewMut<'a, E> {
 }
 
 impl<'a, E: Copy> TileViewMut<'a, E> {
-    ghost use Rattle.std.specs.Prelude.{◌≡◌, ◌-◌, ◌≤◌, min, [], length, take, drop};
-    ghost use Rattle.std.specs.Borrow.{sem, follows, Lends, Array};
+    ghost use Rattle.std.specs.Prelude.{◌≡◌, ◌-◌, ◌≤◌, ◌↔◌, min, [], length, take, drop, slice_index_or, IfSome, IsSome};
+    ghost use Rattle.std.specs.Borrow.{sem, follows, Lends, LendsIf, Array};
     ghost use mir.Syntax.{named};
     ghost use Rattle.av1_block.specs.Windows.{frame_window, cut_window, window_part};
     ghost use Rattle.av1_block.specs.Tables.{view_entries, view_step, view_x, view_y, view_cols, view_rows, view_frame_cols, view_frame_rows};
     ghost use Rattle.av1_block.specs.Cut.{cut_entries, cut_rect, with_cut_table};
-    ghost use Rattle.av1_block.specs.Writing.{window, table_under, entries_under, place_under, lent_name, IsPlaced, with_run_at, with_table};
+    ghost use Rattle.av1_block.specs.Writing.{window, table_under, entries_under, place_under, lent_name, IsPlaced, index_under, with_entry_at, with_run_at, with_table};
     ghost use Rattle.av1_block.specs.contracts.table.Table.{the_row as table-row};
     ghost use Rattle.av1_block.specs.contracts.cut.Cut.{the_row as cut-row};
     ghost use Rattle.av1_block.specs.contracts.tile_view_mut.TileViewMut as view;
@@ -200,5 +200,37 @@ impl<'a, E: Copy> TileViewMut<'a, E> {
         let y = self.window.top + y;
         let cols = self.window.cols;
         self.table.run_mut(left, y, cols)
+    }
+
+    /// The entry at column `x` of row `y`, for writing, where the view has it.
+    pub fn get_mut<'s>(&'s mut self, x: usize, y: usize) -> Option<&'s mut E>
+        requires { IsPlaced self.old }
+        ensures* lends { sem 𝓛 (LendsIf
+            (view.the_row (record { mir = named 1; lft = [] }) E.row) E.row
+            self.entry result (with_entry_at self.old (index_under self.old x y)) self.old) }
+        ensures some { IsSome result ↔ ((x < (window self.old).cols) × (y < (window self.old).rows)) }
+        ensures entry { IfSome result (λ e. e.now
+            ≡ slice_index_or (entries_under self.old) (place_under self.old x y) e.now) }
+    {
+        let index = self.index_of(x, y);
+        self.table.get_mut(index)
+    }
+
+    // Where the entry at column `x` of row `y` stands in the table; past its end where the view
+    // doesn't have it.
+    #[tactic(auto, using(crate::proofs::Places::places))]
+    fn index_of(&self, x: usize, y: usize) -> usize
+        requires { IsPlaced self.now }
+        ensures index { result ≡ index_under self.now x y }
+        ensures inside { (x < (window self.now).cols) → (y < (window self.now).rows)
+            → place_under self.now x y < length (entries_under self.now) }
+    {
+        let table = &*self.table;
+        let entries = table.entries();
+        if x < self.window.cols && y < self.window.rows {
+            (self.window.top + y) * table.cols + (self.window.left + x)
+        } else {
+            entries.len()
+        }
     }
 }
