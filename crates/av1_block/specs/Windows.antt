@@ -8,14 +8,9 @@ abbrev pub frame_window : (x y cols rows frame_cols frame_rows : ℕ) → Window
 frame_window x y cols rows frame_cols frame_rows =
     record { left = x; top = y; x = x; y = y; cols = cols; rows = rows; frame_cols = frame_cols; frame_rows = frame_rows }
 
--- a rectangle that was cut out of a frame's table of these sides
+-- a rectangle that was cut out of a frame's table of these sides, as far as that table goes
 abbrev pub cut_window : TileRect → (frame_cols frame_rows : ℕ) → Window
 cut_window rect frame_cols frame_rows =
-    record { left = 0; top = 0; x = rect.x; y = rect.y; cols = rect.width; rows = rect.height; frame_cols = frame_cols; frame_rows = frame_rows }
-
--- the same, as far as the frame's table goes
-abbrev pub clipped_window : TileRect → (frame_cols frame_rows : ℕ) → Window
-clipped_window rect frame_cols frame_rows =
     record {
       left = 0;
       top = 0;

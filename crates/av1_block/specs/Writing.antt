@@ -1,5 +1,5 @@
 -- Views for writing: a rectangle of the table that is borrowed.
-use Rattle.std.specs.Prelude.{ℕ, ◌+◌, ◌*◌, ◌≡◌, ◌≤◌, ◌<◌, List}
+use Rattle.std.specs.Prelude.{ℕ, ◌+◌, ◌*◌, ◌≡◌, ◌≤◌, ◌&&◌, nat_lt, if◌then◌else◌, List, length}
 use Rattle.std.specs.Borrow.{GName}
 use Rattle.av1_plane.specs.declared.offset.BlockOffset.{BlockOffset}
 use Rattle.av1_block.specs.declared.block.Block.{Block}
@@ -35,6 +35,12 @@ lent_name v = v.table.ghost_name
 -- where column x of row y of a view stands in the entries of the table that it borrows
 abbrev pub place_under : {E : Type 0} → TileViewMut E → ℕ → ℕ → ℕ
 place_under v x y = ((window v).top + y) * (table_under v).cols + ((window v).left + x)
+
+-- the same where the view has column x of row y; past the table's end otherwise
+abbrev pub index_under : {E : Type 0} → TileViewMut E → ℕ → ℕ → ℕ
+index_under v x y =
+    if nat_lt x (window v).cols && nat_lt y (window v).rows then place_under v x y
+    else length (entries_under v)
 
 -- the block at column x of row y of the view
 abbrev pub block_under : TileBlocksMut → ℕ → ℕ → Block

@@ -25,8 +25,8 @@ impl<E> Model for Table<E> {
 
 #[tactic(auto, using(crate::proofs::Places::places))]
 impl<E: Copy> Table<E> {
-    ghost use Rattle.std.specs.Prelude.{◌+◌, length, take, drop, slice_index_or, IfOk};
-    ghost use Rattle.std.specs.Borrow.{sem, Lends, Array};
+    ghost use Rattle.std.specs.Prelude.{◌+◌, ◌↔◌, length, take, drop, slice_index_or, IfOk, IfSome, IsSome};
+    ghost use Rattle.std.specs.Borrow.{sem, Lends, LendsIf, Array};
     ghost use Rattle.av1_block.specs.Rows.{with_entries, with_entry_run, with_entry};
     ghost use Rattle.av1_block.specs.contracts.table.Table.{the_row};
 
@@ -126,5 +126,15 @@ impl<E: Copy> Table<E> {
     {
         let index = y * self.cols + x;
         &mut self.entries[index]
+    }
+
+    /// The entry at `index`, for writing, where there is one.
+    pub(crate) fn get_mut(&mut self, index: usize) -> Option<&mut E>
+        ensures* writes_back { sem 𝓛 (LendsIf (the_row E.row) E.row self.entry result
+            (with_entry self.old index) self.old) }
+        ensures some { IsSome result ↔ (index < length self.old.entries) }
+        ensures entry { IfSome result (λ e. e.now ≡ slice_index_or self.old.entries index e.now) }
+    {
+        self.entries.get_mut(index)
     }
 }

@@ -54,30 +54,9 @@ impl<'a, E: Copy> TileView<'a, E> {
         TileView::over(table, window)
     }
 
-    /// The view at the cut's rectangle of a frame's table of these sides, with the cut's entries.
-    pub fn from_cut(cut: &'a Cut<E>, frame_cols: usize, frame_rows: usize) -> TileView<'a, E>
-        requires across { (cut_rect cut.now).x + (cut_rect cut.now).width ≤ frame_cols }
-        requires down { (cut_rect cut.now).y + (cut_rect cut.now).height ≤ frame_rows }
-        ensures entries { view_entries result ≡ cut_entries cut.now }
-        ensures step { view_step result ≡ (cut_rect cut.now).width }
-        ensures x { view_x result ≡ (cut_rect cut.now).x }
-        ensures y { view_y result ≡ (cut_rect cut.now).y }
-        ensures cols { view_cols result ≡ (cut_rect cut.now).width }
-        ensures rows { view_rows result ≡ (cut_rect cut.now).height }
-        ensures frame_cols { view_frame_cols result ≡ frame_cols }
-        ensures frame_rows { view_frame_rows result ≡ frame_rows }
-    {
-        let window = Window::of_cut(cut.rect(), frame_cols, frame_rows);
-        TileView::over(&cut.table, window)
-    }
-
     /// The view at the cut's rectangle of a frame's table of these sides, with the cut's entries, as
     /// far as that table goes.
-    pub fn from_cut_clipped(
-        cut: &'a Cut<E>,
-        frame_cols: usize,
-        frame_rows: usize,
-    ) -> TileView<'a, E>
+    pub fn from_cut(cut: &'a Cut<E>, frame_cols: usize, frame_rows: usize) -> TileView<'a, E>
         requires left { (cut_rect cut.now).x ≤ frame_cols }
         requires top { (cut_rect cut.now).y ≤ frame_rows }
         ensures entries { view_entries result ≡ cut_entries cut.now }
@@ -91,7 +70,7 @@ impl<'a, E: Copy> TileView<'a, E> {
         ensures frame_cols { view_frame_cols result ≡ frame_cols }
         ensures frame_rows { view_frame_rows result ≡ frame_rows }
     {
-        let window = Window::of_cut_clipped(cut.rect(), frame_cols, frame_rows);
+        let window = Window::of_cut(cut.rect(), frame_cols, frame_rows);
         TileView::over(&cut.table, window)
     }
 

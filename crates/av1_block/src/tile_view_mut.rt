@@ -15,13 +15,13 @@ pub struct TileViewMut<'a, E> {
 }
 
 impl<'a, E: Copy> TileViewMut<'a, E> {
-    ghost use Rattle.std.specs.Prelude.{◌≡◌, ◌-◌, ◌≤◌, min, [], length, take, drop};
-    ghost use Rattle.std.specs.Borrow.{sem, follows, Lends, Array};
+    ghost use Rattle.std.specs.Prelude.{◌≡◌, ◌-◌, ◌≤◌, ◌↔◌, min, [], length, take, drop, slice_index_or, IfSome, IsSome};
+    ghost use Rattle.std.specs.Borrow.{sem, follows, Lends, LendsIf, Array};
     ghost use mir.Syntax.{named};
-    ghost use Rattle.av1_block.specs.Windows.{frame_window, cut_window, clipped_window, window_part};
+    ghost use Rattle.av1_block.specs.Windows.{frame_window, cut_window, window_part};
     ghost use Rattle.av1_block.specs.Tables.{view_entries, view_step, view_x, view_y, view_cols, view_rows, view_frame_cols, view_frame_rows};
     ghost use Rattle.av1_block.specs.Cut.{cut_entries, cut_rect, cut_table, with_cut_table};
-    ghost use Rattle.av1_block.specs.Writing.{window, table_under, entries_under, place_under, lent_name, IsPlaced, with_run_at, with_table};
+    ghost use Rattle.av1_block.specs.Writing.{window, table_under, entries_under, place_under, lent_name, IsPlaced, index_under, with_entry_at, with_run_at, with_table};
     ghost use Rattle.av1_block.specs.contracts.table.Table.{the_row as table-row};
     ghost use Rattle.av1_block.specs.contracts.cut.Cut.{the_row as cut-row};
     ghost use Rattle.av1_block.specs.contracts.tile_view_mut.TileViewMut as view;
@@ -56,38 +56,18 @@ impl<'a, E: Copy> TileViewMut<'a, E> {
         TileViewMut { table, window }
     }
 
-    /// The view at the cut's rectangle of a frame's table of these sides, with the cut's entries.
-    pub fn from_cut(cut: &'a mut Cut<E>, frame_cols: usize, frame_rows: usize) -> TileViewMut<'a, E>
-        requires across { (cut_rect cut.old).x + (cut_rect cut.old).width ≤ frame_cols }
-        requires down { (cut_rect cut.old).y + (cut_rect cut.old).height ≤ frame_rows }
-        ensures* lends { sem 𝓛 (follows (cut-row E.row) (table-row E.row)
-            cut.entry.ghost_name (lent_name result) (with_cut_table cut.old)) }
-        ensures entries { entries_under result ≡ cut_entries cut.old }
-        ensures cols { (table_under result).cols ≡ (cut_rect cut.old).width }
-        ensures window { window result ≡ cut_window (cut_rect cut.old) frame_cols frame_rows }
-        ensures placed { IsPlaced result }
-    {
-        let window = Window::of_cut(cut.rect(), frame_cols, frame_rows);
-        let table = &mut cut.table;
-        TileViewMut { table, window }
-    }
-
     /// The view at the cut's rectangle of a frame's table of these sides, with the cut's entries, as
     /// far as that table goes.
-    pub fn from_cut_clipped(
-        cut: &'a mut Cut<E>,
-        frame_cols: usize,
-        frame_rows: usize,
-    ) -> TileViewMut<'a, E>
+    pub fn from_cut(cut: &'a mut Cut<E>, frame_cols: usize, frame_rows: usize) -> TileViewMut<'a, E>
         requires left { (cut_rect cut.old).x ≤ frame_cols }
         requires top { (cut_rect cut.old).y ≤ frame_rows }
         ensures* lends { sem 𝓛 (follows (cut-row E.row) (table-row E.row)
             cut.entry.ghost_name (lent_name result) (with_cut_table cut.old)) }
         ensures table { table_under result ≡ cut_table cut.old }
-        ensures window { window result ≡ clipped_window (cut_rect cut.old) frame_cols frame_rows }
+        ensures window { window result ≡ cut_window (cut_rect cut.old) frame_cols frame_rows }
         ensures placed { IsPlaced result }
     {
-        let window = Window::of_cut_clipped(cut.rect(), frame_cols, frame_rows);
+        let window = Window::of_cut(cut.rect(), frame_cols, frame_rows);
         let table = &mut cut.table;
         TileViewMut { table, window }
     }
@@ -220,5 +200,37 @@ impl<'a, E: Copy> TileViewMut<'a, E> {
         let y = self.window.top + y;
         let cols = self.window.cols;
         self.table.run_mut(left, y, cols)
+    }
+
+    /// The entry at column `x` of row `y`, for writing, where the view has it.
+    pub fn get_mut<'s>(&'s mut self, x: usize, y: usize) -> Option<&'s mut E>
+        requires { IsPlaced self.old }
+        ensures* lends { sem 𝓛 (LendsIf
+            (view.the_row (record { mir = named 1; lft = [] }) E.row) E.row
+            self.entry result (with_entry_at self.old (index_under self.old x y)) self.old) }
+        ensures some { IsSome result ↔ ((x < (window self.old).cols) × (y < (window self.old).rows)) }
+        ensures entry { IfSome result (λ e. e.now
+            ≡ slice_index_or (entries_under self.old) (place_under self.old x y) e.now) }
+    {
+        let index = self.index_of(x, y);
+        self.table.get_mut(index)
+    }
+
+    // Where the entry at column `x` of row `y` stands in the table; past its end where the view
+    // doesn't have it.
+    #[tactic(auto, using(crate::proofs::Places::places))]
+    fn index_of(&self, x: usize, y: usize) -> usize
+        requires { IsPlaced self.now }
+        ensures index { result ≡ index_under self.now x y }
+        ensures inside { (x < (window self.now).cols) → (y < (window self.now).rows)
+            → place_under self.now x y < length (entries_under self.now) }
+    {
+        let table = &*self.table;
+        let entries = table.entries();
+        if x < self.window.cols && y < self.window.rows {
+            (self.window.top + y) * table.cols + (self.window.left + x)
+        } else {
+            entries.len()
+        }
     }
 }

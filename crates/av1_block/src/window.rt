@@ -1,5 +1,5 @@
 ghost use Rattle.std.specs.Prelude.{◌≡◌, ◌+◌, ◌<◌, ◌≤◌, ◌^◌};
-ghost use Rattle.av1_block.specs.Windows.{cut_window, clipped_window, window_part};
+ghost use Rattle.av1_block.specs.Windows.{cut_window, window_part};
 
 use av1_plane::TileRect;
 
@@ -21,27 +21,11 @@ pub struct Window {
 }
 
 impl Window {
-    /// All of a table that was cut out of a frame's table of these sides.
+    /// A table that was cut out of a frame's table of these sides, as far as that table goes.
     pub fn of_cut(rect: TileRect, frame_cols: usize, frame_rows: usize) -> Window
-        ensures { result ≡ cut_window rect frame_cols frame_rows }
-    {
-        Window {
-            left: 0,
-            top: 0,
-            x: rect.x,
-            y: rect.y,
-            cols: rect.width,
-            rows: rect.height,
-            frame_cols,
-            frame_rows,
-        }
-    }
-
-    /// The same, as far as the frame's table goes.
-    pub fn of_cut_clipped(rect: TileRect, frame_cols: usize, frame_rows: usize) -> Window
         requires left { rect.x ≤ frame_cols }
         requires top { rect.y ≤ frame_rows }
-        ensures { result ≡ clipped_window rect frame_cols frame_rows }
+        ensures { result ≡ cut_window rect frame_cols frame_rows }
     {
         Window {
             left: 0,

@@ -15,7 +15,7 @@ use Rattle.av1_block.specs.declared.tile_view.TileView.{TileView}
 use Rattle.av1_block.specs.Tables.{view_entries, view_step, view_x, view_y, view_cols, view_rows, view_frame_cols, view_frame_rows}
 use Rattle.av1_block.specs.declared.tile_view_mut.TileViewMut.{TileViewMut}
 use Rattle.av1_block.specs.Rows.{Rows}
-use Rattle.av1_block.specs.Windows.{clipped_window}
+use Rattle.av1_block.specs.Windows.{cut_window}
 use Rattle.av1_block.specs.Writing.{window, table_under, IsPlaced}
 use Rattle.av1_tiling.specs.declared.part_place.PartPlace.{PartPlace}
 use Rattle.av1_tiling.specs.Views.{PlaneView, Part, Motion, TileState, part_table, part_with_table}
@@ -73,7 +73,7 @@ pub record ShowsTablePart {E : Type 0} (part : Part E) (table_cols table_rows : 
 -- a view for writing borrows a part of a table with these sides, and shows it as far as the table goes
 pub record LendsTablePart {E : Type 0} (part : Part E) (table_cols table_rows : ℕ) (v : TileViewMut E) : Type 0 where
   pub table : table_under v ≡ part_table part
-  pub window : window v ≡ clipped_window part.rect table_cols table_rows
+  pub window : window v ≡ cut_window part.rect table_cols table_rows
   pub placed : IsPlaced v
 
 -- a rectangle lies in a table of these sides: a view of a part with it shows the whole part

@@ -73,7 +73,7 @@ impl<T: Pixel> TileContextMut<T> {
     pub fn tb(&self) -> TileBlocks<'_>
         ensures { ShowsTablePart self.now.blocks self.now.frame_cols self.now.frame_rows result }
     {
-        TileBlocks::from_cut_clipped(&self.blocks, self.frame_cols, self.frame_rows)
+        TileBlocks::from_cut(&self.blocks, self.frame_cols, self.frame_rows)
     }
 
     /// The same for writing. Afterwards the context has the blocks that were left under the view,
@@ -86,7 +86,7 @@ impl<T: Pixel> TileContextMut<T> {
     {
         let cols = self.frame_cols;
         let rows = self.frame_rows;
-        TileBlocksMut::from_cut_clipped(&mut self.blocks, cols, rows)
+        TileBlocksMut::from_cut(&mut self.blocks, cols, rows)
     }
 }
 

@@ -79,7 +79,7 @@ impl TileMotion {
         ensures { ShowsTablePart (motion_part_at self.now.parts i) self.now.mi_cols
             self.now.mi_rows result }
     {
-        TileMEStats::from_cut_clipped(&self.cuts[i], self.mi_cols, self.mi_rows)
+        TileMEStats::from_cut(&self.cuts[i], self.mi_cols, self.mi_rows)
     }
 
     /// The part of table `i`, at its place in the frame, for writing.
@@ -92,6 +92,6 @@ impl TileMotion {
     {
         let cols = self.mi_cols;
         let rows = self.mi_rows;
-        TileMEStatsMut::from_cut_clipped(&mut self.cuts[i], cols, rows)
+        TileMEStatsMut::from_cut(&mut self.cuts[i], cols, rows)
     }
 }

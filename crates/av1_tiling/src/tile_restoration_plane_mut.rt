@@ -132,7 +132,8 @@ impl<'a> TileRestorationPlaneMut<'a> {
     }
 
     /// The unit that a superblock of the tile belongs to, for writing; the last one serves the
-    /// frame's superblocks past the tile's units. Of the view after a write nothing is said.
+    /// frame's superblocks past the tile's units. What the view has after a write is said by `get_mut`
+    /// of its `units`.
     pub fn restoration_unit_mut(
         &mut self,
         sbo: TileSuperBlockOffset,

@@ -1,6 +1,6 @@
 use Rattle.std.proofs.Common.{◌<◌, length, refl, ap, ◌∙◌, subst, arith}
 use Rattle.av1_block.specs.declared.me_stats.MEStats.{MEStats}
-use Rattle.av1_block.specs.Windows.{clipped_window}
+use Rattle.av1_block.specs.Windows.{cut_window}
 use Rattle.av1_tiling.specs.Views.{Part, Motion, part_table}
 use Rattle.av1_tiling.specs.TileViews.{LendsTablePart, motion_part_at, with_motion_table}
 use Rattle.av1_tiling.proofs.TileMotions.{cut_is_part, part_replaced}
@@ -11,7 +11,7 @@ returns c =
     let i = c.args.i in
     let own = c.self.inside in
     let cut = c.index_mut.result.now in
-    let lent = c.from_cut_clipped.ensures in
+    let lent = c.from_cut.ensures in
     let inside : i < length own.cuts.items = omega (arith, own.cuts.ok.0, own.eight, c.requires) in
     let part = cut_is_part own.cuts.items i cut inside c.index_mut.ensures.value in (
       (
@@ -21,9 +21,9 @@ returns c =
       ),
       record {
         lends = tt;
-        view = subst (λ (m : Motion). LendsTablePart (motion_part_at m.parts i) m.mi_cols m.mi_rows c.from_cut_clipped.result) c.self.view_is (record {
+        view = subst (λ (m : Motion). LendsTablePart (motion_part_at m.parts i) m.mi_cols m.mi_rows c.from_cut.result) c.self.view_is (record {
           table = lent.table ∙ ap (λ (p : Part MEStats). part_table p) part;
-          window = lent.window ∙ ap (λ (p : Part MEStats). clipped_window p.rect own.mi_cols own.mi_rows) part;
+          window = lent.window ∙ ap (λ (p : Part MEStats). cut_window p.rect own.mi_cols own.mi_rows) part;
           placed = lent.placed;
         });
       },
