@@ -11,7 +11,6 @@ use Rattle.av1_plane.specs.declared.tile_rect.TileRect.{TileRect}
 use Rattle.av1_tiling.specs.Grid.{round_up, IsBuiltSide}
 use Rattle.av1_tiling.specs.TileRects.{samples_rect, motion_rect}
 use Rattle.av1_tiling.specs.Frames.{State, AreMotionTables, PartFits, LiesInFrame, HoldsRect, no_rect}
-use Rattle.av1_tiling.specs.Views.{PlaneView}
 use Rattle.av1_plane.specs.declared.three.Three.{Three}
 
 -- rounding up to superblocks adds less than one

@@ -1,11 +1,10 @@
 -- Writing through the view of one tile changes the view of no other.
-use Rattle.std.proofs.Common.{◌≡◌, ◌≢◌, ℕ, ℤ, ◌*◌, ◌<◌, List, [], ◌∷◌, All, length, get_or, refl, inl, inr, sym, ap, ◌∙◌, subst, arith}
+use Rattle.std.proofs.Common.{◌≡◌, ◌≢◌, ℕ, ℤ, ◌*◌, ◌<◌, List, [], ◌∷◌, All, length, get_or, refl, inl, inr, sym, ap, ◌∙◌, subst}
 use Rattle.std.proofs.Math.Nat.{mul_comm}
 use Rattle.std.specs.List.{AllZip}
 use Rattle.std.proofs.lemmas.Bool.{cases_order}
 use Rattle.std.proofs.lemmas.List.Elements.{All-head, All-tail}
 use Rattle.av1_plane.specs.declared.tile_rect.TileRect.{TileRect}
-use Rattle.av1_block.specs.declared.block.Block.{Block}
 use Rattle.av1_block.specs.Cut.{LiesInTable, AreApart, cut_at, put_at}
 use Rattle.av1_block.proofs.Cuts.{length-cut_of, length-with_cut}
 use Rattle.av1_block.proofs.CutLaws.{put_of_cut_is_same, cut_of_put_is_put, puts_commute}
@@ -13,7 +12,7 @@ use Rattle.av1_tiling.specs.declared.tiling_info.TilingInfo.{TilingInfo}
 use Rattle.av1_tiling.specs.Coded.{IsTablePart}
 use Rattle.av1_block.specs.declared.me_stats.MEStats.{MEStats}
 use Rattle.av1_block.specs.Rows.{Rows}
-use Rattle.av1_tiling.specs.Frames.{State, IsTilingOf, PartFits, stored_rect, plane_part, part_at, motion_parts, view_of, unit_part, AreTileUnits}
+use Rattle.av1_tiling.specs.Frames.{PartFits, stored_rect, plane_part, part_at, motion_parts, view_of, unit_part, AreTileUnits}
 use Rattle.av1_tiling.specs.Laws.{OthersStay}
 use Rattle.av1_tiling.specs.Puts.{put, put_motion}
 use Rattle.std.specs.Prelude.{◌^◌}
@@ -21,7 +20,7 @@ use Rattle.std.specs.Int.{div_ceil}
 use Rattle.av1_block.specs.declared.restoration_unit.RestorationUnit.{RestorationUnit}
 use Rattle.av1_tiling.specs.Restoration.{Units}
 use Rattle.av1_tiling.specs.TileRects.{tile_superblock, tile_luma, tile_samples, tile_blocks, tile_motion, block_columns}
-use Rattle.av1_tiling.specs.Views.{Part, PlaneView, View, SameRect, SameShape, IsFull}
+use Rattle.av1_tiling.specs.Views.{Part, PlaneView, SameRect, IsFull}
 use Rattle.av1_tiling.proofs.ViewPlaces.{tile_fits_y, tile_fits_u, tile_fits_v, plane_of, table_of, motion_of, units_of, planes_apart, blocks_apart, motions_apart, units_apart}
 
 -- a cut stays where another rectangle was written

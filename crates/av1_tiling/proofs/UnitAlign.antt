@@ -1,14 +1,13 @@
 -- The units of a frame lie in whole tiles: each of several tiles begins with a unit, and no more units than cover the frame.
-use Rattle.std.proofs.Common.{◌≡◌, ℕ, zero, suc, Bool, true, false, ◌+◌, ◌-◌, ◌*◌, ◌/◌, ◌%◌, ◌^◌, ◌<◌, ◌≤◌, ◌⊎◌, inl, inr, min, max, Some, sym, ap, ◌∙◌, refl, subst, arith}
-use Rattle.std.specs.Prelude.{if◌then◌else◌, nat_lt, ◌||◌, ◌==◌, length, unwrap_or}
+use Rattle.std.proofs.Common.{◌≡◌, ℕ, zero, suc, ◌+◌, ◌-◌, ◌*◌, ◌/◌, ◌%◌, ◌^◌, ◌<◌, ◌≤◌, ◌⊎◌, inl, inr, min, sym, ap, ◌∙◌, refl, subst, arith}
 use Rattle.std.specs.Int.{w64, trailing_zeros, div_ceil}
 use Rattle.std.specs.Int.Count.{count_trailing_zeros}
 use Rattle.std.proofs.lemmas.Bool.{cases_lt}
-use Rattle.std.proofs.lemmas.Nat.{pow_pos, pow-add, mul-le, mod-mul-add}
+use Rattle.std.proofs.lemmas.Nat.{pow_pos, pow-add, mod-mul-add}
 use Rattle.std.proofs.Math.Nat.{mul-le-mul_right, mul_assoc, mul_comm, pow-suc, div-mul-le_self}
 use Rattle.std.proofs.Math.Pow.{pow_mono}
 use Rattle.av1_tiling.specs.UnitSizes.{unit_log2, unit_count}
-use Rattle.av1_tiling.proofs.Quotients.{div_ceil-from, div_ceil-le_of}
+use Rattle.av1_tiling.proofs.Quotients.{div_ceil-le_of}
 use Rattle.av1_tiling.proofs.GridFacts.{parts_hold, div_ceil-pos}
 
 -- Powers of two.

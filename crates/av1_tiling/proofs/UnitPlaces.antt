@@ -1,12 +1,11 @@
 -- Where a tile's restoration units stand: in the table, at the rectangle of its superblocks.
-use Rattle.std.proofs.Common.{◌≡◌, ℕ, ◌+◌, ◌-◌, ◌*◌, ◌/◌, ◌^◌, ◌<◌, ◌≤◌, min, inl, inr, sym, ap, ◌∙◌, refl, subst, arith}
+use Rattle.std.proofs.Common.{◌≡◌, ℕ, ◌+◌, ◌-◌, ◌*◌, ◌^◌, ◌<◌, ◌≤◌, min, inl, inr, sym, ap, ◌∙◌, arith}
 use Rattle.std.proofs.Math.Nat.{mul-le-mul_right, mul_comm}
 use Rattle.std.specs.Int.{div_ceil}
-use Rattle.av1_plane.specs.declared.tile_rect.TileRect.{TileRect}
 use Rattle.av1_block.specs.Cut.{LiesIn}
 use Rattle.av1_tiling.specs.Frames.{unit_part}
 use Rattle.av1_tiling.specs.Restoration.{Units}
-use Rattle.av1_tiling.specs.TileRects.{units_rect, tile_units, tile_superblock, tile_superblocks, tile_luma, superblock_side, superblock_columns, superblock_rows}
+use Rattle.av1_tiling.specs.TileRects.{units_rect, tile_units, tile_superblock, tile_luma}
 use Rattle.av1_tiling.specs.declared.tiling_info.TilingInfo.{TilingInfo}
 use Rattle.av1_tiling.proofs.TilingFacts.{IsTiling}
 use Rattle.av1_tiling.proofs.Quotients.{div_ceil-from, div_ceil-le_of, div_ceil-part}

@@ -1,8 +1,7 @@
 -- The sizes of a frame's units fit its tiles.
-use Rattle.std.proofs.Common.{◌≡◌, ℕ, zero, suc, Bool, true, false, ◌+◌, ◌-◌, ◌*◌, ◌/◌, ◌%◌, ◌^◌, ◌<◌, ◌≤◌, ◌⊎◌, inl, inr, min, Some, sym, ap, ◌∙◌, refl, subst, arith}
-use Rattle.std.specs.Prelude.{if◌then◌else◌, nat_lt, ◌||◌, ◌==◌, ◌&&◌, not, length, unwrap_or}
+use Rattle.std.proofs.Common.{◌≡◌, ℕ, zero, suc, Bool, true, false, ◌-◌, ◌*◌, ◌/◌, ◌^◌, ◌<◌, ◌≤◌, inl, inr, min, sym, ap, ◌∙◌, refl, subst, arith}
+use Rattle.std.specs.Prelude.{if◌then◌else◌, nat_lt, ◌||◌, ◌&&◌, unwrap_or}
 use Rattle.std.specs.Int.{w64, trailing_zeros, div_ceil}
-use Rattle.std.proofs.lemmas.Bool.{cases_lt}
 use Rattle.std.proofs.lemmas.Nat.{pow_pos}
 use Rattle.std.proofs.Math.Pow.{pow_mono}
 use Rattle.av1_plane.specs.Layout.{visible, rounded}
@@ -12,14 +11,14 @@ use Rattle.av1_plane.specs.declared.sampling.ChromaSampling.{ChromaSampling}
 use Rattle.av1_plane.specs.declared.sampling.ChromaSampling.TheVariants.{Cs420, Cs422, Cs444, Cs400}
 use Rattle.av1_tiling.specs.declared.unit_sizes.UnitSizes.{UnitSizes}
 use Rattle.av1_tiling.specs.declared.tiling_info.TilingInfo.{TilingInfo}
-use Rattle.av1_tiling.specs.Frames.{Parameters, IsFrame, AreTileUnits, CanCutUnits, is_422, superblock_side_log2}
+use Rattle.av1_tiling.specs.Frames.{Parameters, IsFrame, AreTileUnits, is_422, superblock_side_log2}
 use Rattle.av1_tiling.specs.FitsUnits.{FitsUnits}
 use Rattle.av1_tiling.specs.Restoration.{Units, HasLayout}
 use Rattle.av1_tiling.specs.TileRects.{superblock_columns, superblock_rows}
 use Rattle.av1_tiling.specs.UnitSizes.{unit_sizes, unit_layout, unit_layouts, unit_log2, unit_count, shifts, superblock_log2, base_shift, chroma_shift, large_sizes, small_sizes, wanted_sizes, is_420, AreUnitsFor, start_units}
-use Rattle.av1_tiling.specs.Grid.{grid, round_up, superblock_log2 as grid_log2}
+use Rattle.av1_tiling.specs.Grid.{round_up, superblock_log2 as grid_log2}
 use Rattle.av1_tiling.proofs.GridFacts.{parts_hold}
-use Rattle.av1_tiling.proofs.TilingFacts.{IsTiling, grid_is, grid-sides, grid-even}
+use Rattle.av1_tiling.proofs.TilingFacts.{grid_is, grid-sides, grid-even}
 use Rattle.av1_tiling.proofs.UnitAlign.{IsSide, min_is, kept_is, low_shift, log2_is, count_covered, zeros_align, even_has_zero}
 use Rattle.av1_tiling.proofs.UnitSizeFacts.{base_most, half_most, shifts_small}
 use Rattle.av1_tiling.proofs.LawProofs.{cols-pos, rows-pos, cuts_units}

@@ -13,7 +13,6 @@ use Rattle.av1_plane.specs.Area.{decimated_tile}
 use Rattle.av1_plane.specs.declared.frame.Frame.{Frame}
 use Rattle.av1_plane.specs.declared.plane.Plane.{Plane}
 use Rattle.av1_plane.specs.declared.plane.PlaneConfig.{PlaneConfig}
-use Rattle.av1_plane.specs.declared.three.Three.{Three}
 use Rattle.av1_plane.specs.declared.tile_rect.TileRect.{TileRect}
 use Rattle.av1_block.specs.Cut.{LiesIn, IsInside, AreApart}
 use Rattle.av1_block.specs.declared.block.Block.{Block}

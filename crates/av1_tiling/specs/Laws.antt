@@ -8,8 +8,7 @@ use Rattle.av1_tiling.specs.Frames.{Parameters, State, IsFrame, IsTilingOf, view
 use Rattle.av1_tiling.specs.Puts.{put, put_all, put_cuts, put_motion, put_units}
 use Rattle.av1_tiling.specs.Coded.{HasParts, IsTablePart, ArePartsApart}
 use Rattle.std.specs.List.Sorted.{IsPermutation}
-use Rattle.std.specs.Prelude.{ℕ, List, length, All, Bool, Some, ◌≡◌, ◌≢◌, ◌*◌, ◌/◌, ◌%◌, ◌^◌, ◌<◌, ◌≤◌}
-use Rattle.std.specs.Int.{div_ceil}
+use Rattle.std.specs.Prelude.{ℕ, List, length, All, Bool, Some, ◌≡◌, ◌≢◌, ◌*◌, ◌/◌, ◌^◌, ◌<◌, ◌≤◌}
 use Rattle.av1_tiling.specs.Least.{tile_log2}
 use Rattle.av1_tiling.specs.Grid.{grid}
 use Rattle.av1_tiling.specs.Partition.{Partitions}

@@ -1,6 +1,6 @@
 -- The units of loop restoration (AV1 specification, sections 5.9.20 and 7.17): how they lie in a plane, which one a stripe
 -- takes, and what a bitstream can say of one (section 5.11.58).
-use Rattle.std.specs.Prelude.{ℕ, ℤ, pos, neg_ℤ, ◌+◌, ◌-◌, ◌*◌, ◌/◌, ◌<◌, ◌≤◌, ◌≤ℤ◌, ◌≡◌, List, [], ◌∷◌, All, length, min, replicate}
+use Rattle.std.specs.Prelude.{ℕ, ℤ, pos, neg_ℤ, ◌+◌, ◌-◌, ◌*◌, ◌/◌, ◌<◌, ◌≤ℤ◌, ◌≡◌, List, [], length, min, replicate}
 use Rattle.std.specs.List.{slice_index_or}
 use Rattle.av1_plane.specs.declared.three.Three.{Three}
 use Rattle.av1_block.specs.declared.restoration_unit.RestorationFilter.{RestorationFilter}

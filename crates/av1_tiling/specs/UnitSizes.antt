@@ -1,11 +1,10 @@
 -- How large the units of loop restoration are (AV1 specification, section 5.9.20). A bitstream names their sizes; these are
 -- the ones that an encoder chooses here, from the quantiser, the frame's sides and the tiles.
-use Rattle.std.specs.Prelude.{ℕ, Bool, true, false, not, ◌+◌, ◌-◌, ◌*◌, ◌/◌, ◌%◌, ◌^◌, ◌≡◌, ◌==◌, ◌&&◌, ◌||◌, nat_le, nat_lt, min, max, if◌then◌else◌, unwrap_or}
+use Rattle.std.specs.Prelude.{ℕ, Bool, not, ◌+◌, ◌-◌, ◌*◌, ◌/◌, ◌%◌, ◌^◌, ◌==◌, ◌&&◌, ◌||◌, nat_le, nat_lt, min, max, if◌then◌else◌, unwrap_or}
 use Rattle.std.specs.Int.{w64, trailing_zeros}
 use Rattle.av1_plane.specs.declared.three.Three.{Three}
 use Rattle.av1_plane.specs.Layout.{visible}
 use Rattle.av1_plane.specs.Sampling.{decimation}
-use Rattle.av1_tiling.specs.declared.tiling_info.TilingInfo.{TilingInfo}
 use Rattle.av1_tiling.specs.declared.unit_sizes.UnitSizes.{UnitSizes}
 use Rattle.av1_tiling.specs.declared.restoration_plane.RestorationPlaneConfig.{RestorationPlaneConfig}
 use Rattle.av1_tiling.specs.Parameters.{Parameters}

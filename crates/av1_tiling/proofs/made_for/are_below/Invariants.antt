@@ -1,4 +1,4 @@
-use Rattle.std.proofs.Common.{take, map, All}
+use Rattle.std.proofs.Common.{take, All}
 use Rattle.av1_plane.specs.Numbers.{InDepth}
 use Rattle.av1_tiling.proofs.made_for.are_below.Given as goal
 

@@ -1,4 +1,3 @@
-use Rattle.std.proofs.Common.{◌≡◌}
 use Rattle.av1_tiling.proofs.MadeFor.{state_made, input_made}
 use Rattle.av1_tiling.proofs.frame_state.FrameState.made_for.Goals as goal
 
