@@ -1,5 +1,5 @@
 use Rattle.std.proofs.Common.{◌≡◌, ◌*◌, length, vec_len}
-use Rattle.av1_deblock.proofs.tests.plane_by.Given as goal
+use Rattle.av1_deblock.proofs.tests.decimated_by.Given as goal
 
 -- The samples of the rows above are all there.
 abbrev pub invariant-loop-below : goal.invariant-loop-below
