@@ -27,3 +27,4 @@ pub mod MadeFor
 pub mod Decided
 pub mod OtherViews
 pub mod UnitSizeFacts
+pub mod Written

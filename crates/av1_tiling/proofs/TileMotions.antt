@@ -4,12 +4,12 @@ use Rattle.std.proofs.lemmas.List.{length-map, get_or-map, map-set}
 use Rattle.av1_plane.specs.declared.tile_rect.TileRect.{TileRect}
 use Rattle.av1_block.specs.declared.cut.Cut.{Cut}
 use Rattle.av1_block.specs.declared.me_stats.MEStats.{MEStats}
-use Rattle.av1_block.specs.Cut.{cut_rect, with_cut_table}
+use Rattle.av1_block.specs.Cut.{cut_rect, recut, with_cut_table}
 use Rattle.av1_block.specs.Rows.{Rows}
-use Rattle.av1_tiling.specs.Views.{Part, view_cut, part_with_table}
+use Rattle.av1_tiling.specs.Views.{Part, view_cut, part_with_entries, part_with_table}
 use Rattle.av1_tiling.specs.Frames.{motion_parts, part_at}
 use Rattle.av1_tiling.specs.Coded.{no_part}
-use Rattle.av1_tiling.specs.TileViews.{motion_part_at, parts_with_table}
+use Rattle.av1_tiling.specs.TileViews.{motion_part_at, parts_with_records, parts_with_table}
 
 module _ (tables : List (Rows MEStats)) (cuts : List (Cut MEStats)) (rect : TileRect) (are : map view_cut cuts ≡ motion_parts tables rect) where
   -- there is one of each table
@@ -28,6 +28,10 @@ module _ (cuts : List (Cut MEStats)) (i : ℕ) (cut : Cut MEStats) (inside : i <
   -- a cut is a part
   pub cut_is_part : view_cut cut ≡ motion_part_at (map view_cut cuts) i
   cut_is_part = ap view_cut is ∙ sym (get_or-map view_cut cuts i cut no_part inside)
+
+  -- a cut with other entries is a part with these entries
+  pub records_replaced : (records : List MEStats) → map view_cut (slice_set cuts i (recut cut records)) ≡ parts_with_records (map view_cut cuts) i records
+  records_replaced records = map-set view_cut cuts i (recut cut records) ∙ ap (λ (p : Part MEStats). slice_set (map view_cut cuts) i (part_with_entries p records)) cut_is_part
 
   -- a cut with another table is a part with that table
   pub part_replaced : (table : Rows MEStats) → map view_cut (slice_set cuts i (with_cut_table cut table)) ≡ parts_with_table (map view_cut cuts) i table

@@ -18,7 +18,7 @@ use Rattle.av1_block.specs.Rows.{Rows}
 use Rattle.av1_block.specs.Windows.{cut_window}
 use Rattle.av1_block.specs.Writing.{window, table_under, IsPlaced}
 use Rattle.av1_tiling.specs.declared.part_place.PartPlace.{PartPlace}
-use Rattle.av1_tiling.specs.Views.{PlaneView, Part, Motion, TileState, part_table, part_with_table}
+use Rattle.av1_tiling.specs.Views.{PlaneView, Part, Motion, TileState, part_table, part_with_entries, part_with_table}
 use Rattle.av1_tiling.specs.Coded.{no_part}
 
 -- the rectangle of a part of a plane, from the plane's origin
@@ -88,6 +88,18 @@ motion_part_at parts i = slice_index_or parts i no_part
 -- parts of the motion tables, with this table in place of part i's
 abbrev pub parts_with_table : List (Part MEStats) → ℕ → Rows MEStats → List (Part MEStats)
 parts_with_table parts i table = slice_set parts i (part_with_table (motion_part_at parts i) table)
+
+-- parts of the motion tables, with these records in part i, as many as before
+abbrev pub parts_with_records : List (Part MEStats) → ℕ → List MEStats → List (Part MEStats)
+parts_with_records parts i records = slice_set parts i (part_with_entries (motion_part_at parts i) records)
+
+-- a tile's motion with these records in part i, as many as before
+abbrev pub with_motion_records : Motion → ℕ → List MEStats → Motion
+with_motion_records m i records = record m { parts = parts_with_records m.parts i records }
+
+-- a tile's state with these motion records in part i, as many as before
+abbrev pub with_records : TileState → ℕ → List MEStats → TileState
+with_records t i records = record t { me_stats = parts_with_records t.me_stats i records }
 
 -- a tile's motion with this table in place of part i's
 abbrev pub with_motion_table : Motion → ℕ → Rows MEStats → Motion

@@ -1,16 +1,21 @@
-ghost use Rattle.std.specs.Prelude.{◌≡◌, IfOk};
+ghost use Rattle.std.specs.Prelude.{◌≡◌, ◌<◌, IfOk};
+ghost use Rattle.std.specs.List.{AllZip};
 ghost use Rattle.av1_plane.specs.declared.sampling.ChromaSampling.TheVariants.{Cs420};
 ghost use Rattle.av1_plane.specs.Region.{IsStored, IsSamePart};
 ghost use Rattle.av1_plane.specs.Tiles.{KeepsPlanes};
-ghost use Rattle.av1_tiling.specs.Frames.{IsFrame, IsStateFor};
+ghost use Rattle.av1_block.specs.Tables.{table_entries};
+ghost use Rattle.av1_tiling.specs.Frames.{IsFrame, IsStateFor, IsTilingOf, views};
+ghost use Rattle.av1_tiling.specs.Views.{View, SameShape};
 
+use crate::tiler::cut_tiles;
 use crate::{
-    FrameInvariants, FrameState, FrameType, ReferenceFramesSet, Sequence, TileStateMut, TilingInfo,
+    FrameInvariants, FrameState, FrameType, ReferenceFramesSet, Sequence, TileContextMut,
+    TileStateMut, TilingInfo, put_back,
 };
-use av1_block::FrameBlocks;
+use av1_block::{Block, FrameBlocks, FrameMEStats, MotionVector, PredictionMode};
 use av1_plane::{
     ChromaSampling, Frame, FrameAlloc, OutOfMemory, Plane, PlaneRegionMut, PlaneSuperBlockOffset,
-    SuperBlockOffset, TileMut,
+    SuperBlockOffset, Three, TileMut,
 };
 use std::alloc::Global;
 use std::sync::Arc;
@@ -177,5 +182,173 @@ fn cuts_nine_tiles(rt: HostRuntime) -> Result<(), Fail> {
         assert_eq!(rt; (chroma.width, chroma.height), (32, 32));
         is_shared(&tile);
     }
+    Ok(())
+}
+
+// Writes samples of a plane, from place `from` of the tile's on.
+#[tactic(auto, using(crate::proofs::Written::written))]
+fn write_samples(
+    tile: &mut TileContextMut<u8>,
+    pli: usize,
+    from: u16,
+    run: &[u8],
+) -> Result<(), Fail>
+    requires { pli < 3 }
+    ensures { (first : View) → SameShape first tile.old → SameShape first tile.new }
+{
+    let from = from as usize;
+    let samples = tile.ts.samples_mut(pli);
+    if samples.len() < from + run.len() {
+        return Err(Fail::from("too few samples"));
+    }
+    samples[from..from + run.len()].copy_from_slice(run);
+    Ok(())
+}
+
+#[tactic(auto, using(crate::proofs::Written::written))]
+fn write_vector(
+    tile: &mut TileContextMut<u8>,
+    table: usize,
+    place: usize,
+    mv: MotionVector,
+) -> Result<(), Fail>
+    requires { table < 8 }
+    ensures { (first : View) → SameShape first tile.old → SameShape first tile.new }
+{
+    let records = tile.ts.records_mut(table);
+    if records.len() <= place {
+        return Err(Fail::from("too few motion records"));
+    }
+    records[place].mv = mv;
+    Ok(())
+}
+
+#[tactic(auto, using(crate::proofs::Written::written))]
+fn write_block(tile: &mut TileContextMut<u8>, place: usize, block: Block) -> Result<(), Fail>
+    ensures { (first : View) → SameShape first tile.old → SameShape first tile.new }
+{
+    let blocks = tile.blocks_mut();
+    if blocks.len() <= place {
+        return Err(Fail::from("too few blocks"));
+    }
+    blocks[place] = block;
+    Ok(())
+}
+
+// Writes to all that tile `n` has.
+fn write_tile(tile: &mut TileContextMut<u8>, n: usize) -> Result<(), Fail>
+    ensures { (first : View) → SameShape first tile.old → SameShape first tile.new }
+{
+    let blank = Block::default();
+    if n == 0 {
+        write_samples(tile, 0, 12 * 64 + 35, &[4, 42, 12, 18, 15, 31])?;
+        write_vector(tile, 0, 5 * 16 + 8, MotionVector { row: 38, col: 42 })?;
+        write_block(tile, 3 * 16 + 4, Block { n4_w: 42, ..blank })?;
+        let block = Block {
+            segmentation_idx: 14,
+            ..blank
+        };
+        return write_block(tile, 5 * 16 + 8, block);
+    }
+    if n == 5 {
+        write_vector(tile, 2, 2 * 8 + 3, MotionVector { row: 14, col: 2 })?;
+        return write_block(tile, 8, Block { n4_h: 11, ..blank });
+    }
+    write_samples(tile, 2, 32 + 11, &[6, 5, 2, 11, 8])?;
+    let block = Block {
+        mode: PredictionMode::PAETH_PRED,
+        ..blank
+    };
+    write_block(tile, 2 * 16 + 3, block)
+}
+
+// Nine tiles, of which three were written to.
+fn written_tiles(
+    alloc: Global,
+    tiling: &TilingInfo,
+    fs: &FrameState<u8>,
+    blocks: &FrameBlocks,
+) -> Result<Vec<TileContextMut<u8>>, Fail>
+    requires { IsTilingOf tiling.now fs.now blocks.now.cols blocks.now.rows }
+    ensures { IfOk result (λ tiles.
+        AllZip SameShape (views tiling.now fs.now (table_entries blocks.now)) tiles.items) }
+{
+    let mut tiles = cut_tiles(alloc, tiling, fs, blocks, tiling.tile_count())?;
+    if tiles.len() != 9 {
+        return Err(Fail::from("not nine tiles"));
+    }
+    write_tile(&mut tiles[0], 0)?;
+    write_tile(&mut tiles[5], 5)?;
+    write_tile(&mut tiles[7], 7)?;
+    Ok(tiles)
+}
+
+fn vector_at(me: &[FrameMEStats], table: usize, place: usize) -> Option<MotionVector> {
+    Some(me.get(table)?.entries().get(place)?.mv)
+}
+
+fn is_blank(block: &Block) -> bool {
+    (block.n4_w, block.n4_h, block.segmentation_idx) == (16, 16, 0)
+        && block.mode == PredictionMode::DC_PRED
+}
+
+#[test]
+fn writes_stand_where_tiles_lie(rt: HostRuntime) -> Result<(), Fail> {
+    let alloc = rt.alloc();
+    let fi = nine_tiles(alloc)?;
+    let fs = blank_state(alloc, &fi)?;
+    let mut blocks = FrameBlocks::new(alloc, 40, 36)?;
+    let tiles = written_tiles(alloc, &fi.sequence.tiling, &fs, &blocks)?;
+    let mut rec = fs.rec.try_clone(alloc)?;
+    let FrameState {
+        frame_me_stats: mut me,
+        restoration: mut units,
+        ..
+    } = fs;
+    put_back(&tiles, &mut rec, &mut me, &mut units, &mut blocks);
+    let Three { y, u, v } = &rec.planes;
+    let luma = (88 + 12) * y.cfg.stride + 88 + 35;
+    let chroma = (44 + 65) * v.cfg.stride + 44 + 43;
+    assert_eq!(rt;
+        y.samples.get(luma..luma + 6),
+        Some([4u8, 42, 12, 18, 15, 31].as_slice())
+    );
+    assert_eq!(rt;
+        v.samples.get(chroma..chroma + 5),
+        Some([6u8, 5, 2, 11, 8].as_slice())
+    );
+    assert_eq!(rt;
+        vector_at(&me, 0, 5 * 40 + 8),
+        Some(MotionVector { row: 38, col: 42 })
+    );
+    assert_eq!(rt;
+        vector_at(&me, 2, 18 * 40 + 35),
+        Some(MotionVector { row: 14, col: 2 })
+    );
+    let blocks = blocks.entries();
+    assert_eq!(rt; blocks.get(3 * 40 + 4).map(|block| block.n4_w), Some(42));
+    assert_eq!(rt;
+        blocks.get(5 * 40 + 8).map(|block| block.segmentation_idx),
+        Some(14)
+    );
+    assert_eq!(rt; blocks.get(17 * 40 + 32).map(|block| block.n4_h), Some(11));
+    assert_eq!(rt;
+        blocks.get(34 * 40 + 19).map(|block| block.mode),
+        Some(PredictionMode::PAETH_PRED)
+    );
+    // All else is as it was.
+    assert_eq!(rt; y.samples.iter().filter(|sample| **sample != 0).count(), 6);
+    assert!(rt; u.samples.iter().all(|sample| *sample == 0));
+    assert_eq!(rt; v.samples.iter().filter(|sample| **sample != 0).count(), 5);
+    assert_eq!(rt; blocks.iter().filter(|block| !is_blank(block)).count(), 4);
+    let mut moved = 0u32;
+    for table in &me {
+        for stats in table.entries() {
+            if stats.mv != MotionVector::default() {
+                moved = moved.wrapping_add(1);
+            }
+        }
+    }
+    assert_eq!(rt; moved, 2);
     Ok(())
 }

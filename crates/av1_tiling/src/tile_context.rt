@@ -76,8 +76,9 @@ impl<T: Pixel> TileContextMut<T> {
         TileBlocks::from_cut(&self.blocks, self.frame_cols, self.frame_rows)
     }
 
-    /// The same for writing. Afterwards the context has the blocks that were left under the view,
-    /// and all else as before.
+    /// The same for writing. Afterwards the context has the table that was left under the view in
+    /// place of its blocks, and all else as before; that the table's sides are kept is said by
+    /// `blocks_mut` alone.
     pub fn tb_mut(&mut self) -> TileBlocksMut<'_>
         ensures* lends { sem 𝓛 (follows (the_row T.row T.Pixel) (table_row block_row)
             self.entry.ghost_name (lent_name result) (with_block_table self.old)) }

@@ -34,13 +34,13 @@ impl Model for TileMotion {
 
 impl TileMotion {
     ghost use Rattle.std.specs.Prelude.{◌+◌, ◌<◌, IfOk, map};
-    ghost use Rattle.std.specs.Borrow.{sem, follows};
+    ghost use Rattle.std.specs.Borrow.{sem, follows, Lends, Array};
     ghost use Rattle.av1_block.specs.Writing.{lent_name};
     ghost use Rattle.av1_block.specs.contracts.me_stats.MEStats.{the_row as stats_row};
     ghost use Rattle.av1_block.specs.contracts.table.Table.{the_row as table_row};
     ghost use Rattle.av1_tiling.specs.Views.{view_cut};
     ghost use Rattle.av1_tiling.specs.Frames.{motion_parts, AreMotionTables};
-    ghost use Rattle.av1_tiling.specs.TileViews.{ShowsTablePart, LendsTablePart, motion_part_at, with_motion_table};
+    ghost use Rattle.av1_tiling.specs.TileViews.{ShowsTablePart, LendsTablePart, motion_part_at, with_motion_records, with_motion_table};
     ghost use Rattle.av1_tiling.specs.contracts.tile_motion.TileMotion.{the_row};
 
     /// The parts that a rectangle covers.
@@ -71,6 +71,16 @@ impl TileMotion {
         ensures { map view_cut result.now ≡ self.now.parts }
     {
         self.cuts.as_slice()
+    }
+
+    /// The part of table `i`, row by row, for writing.
+    pub(crate) fn records_mut(&mut self, i: usize) -> &mut [MEStats]
+        requires { i < 8 }
+        ensures* lends { sem 𝓛 (Lends the_row (Array stats_row 0) self.entry result
+            (with_motion_records self.old i)) }
+        ensures value { result.now ≡ (motion_part_at self.old.parts i).entries }
+    {
+        self.cuts[i].entries_mut()
     }
 
     /// The part of table `i`, at its place in the frame.

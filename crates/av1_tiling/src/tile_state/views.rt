@@ -8,18 +8,18 @@ ghost use Rattle.av1_tiling.specs.TileViews.{ShowsPart, ShowsParts, ShowsStored,
 use crate::part_place::PartPlace;
 use crate::plane_part::PlanePart;
 use crate::tile_state::TileStateMut;
-use av1_block::{TileMEStats, TileMEStatsMut};
+use av1_block::{MEStats, TileMEStats, TileMEStatsMut};
 use av1_plane::{
     BlockOffset, Pixel, Plane, PlaneBlockOffset, PlaneRegion, PlaneSuperBlockOffset, Rect,
     SuperBlockOffset, Three, Tile, TileBlockOffset, TileRect, TileSuperBlockOffset,
 };
 
 impl<T: Pixel> TileStateMut<T> {
-    ghost use Rattle.std.specs.Borrow.{sem, follows};
+    ghost use Rattle.std.specs.Borrow.{sem, follows, Lends, Array};
     ghost use Rattle.av1_block.specs.Writing.{lent_name};
     ghost use Rattle.av1_block.specs.contracts.me_stats.MEStats.{the_row as stats_row};
     ghost use Rattle.av1_block.specs.contracts.table.Table.{the_row as table_row};
-    ghost use Rattle.av1_tiling.specs.TileViews.{LendsTablePart, with_motion};
+    ghost use Rattle.av1_tiling.specs.TileViews.{LendsTablePart, with_records, with_motion};
     ghost use Rattle.av1_tiling.specs.contracts.tile_state.TileStateMut.{the_row};
 
     /// The tile's part of the reconstruction.
@@ -60,8 +60,18 @@ impl<T: Pixel> TileStateMut<T> {
         self.me_stats.view(i)
     }
 
-    /// The same for writing. Afterwards the tile has the records that were left under the view, and
-    /// all else as before.
+    /// The same records, row by row, for writing.
+    pub fn records_mut(&mut self, i: usize) -> &mut [MEStats]
+        requires { i < 8 }
+        ensures* lends { sem 𝓛 (Lends (the_row T.row T.Pixel) (Array stats_row 0) self.entry result
+            (with_records self.old i)) }
+        ensures value { result.now ≡ (motion_part_at self.old.me_stats i).entries }
+    {
+        self.me_stats.records_mut(i)
+    }
+
+    /// The same view for writing. Afterwards the tile has the table that was left under the view,
+    /// and all else as before; that the table's sides are kept is said by `records_mut` alone.
     pub fn me_stats_mut(&mut self, i: usize) -> TileMEStatsMut<'_>
         requires { i < 8 }
         ensures* lends { sem 𝓛 (follows (the_row T.row T.Pixel) (table_row stats_row)
