@@ -1,4 +1,4 @@
-use Rattle.std.proofs.Common.{◌<◌, length, refl, ap, ◌∙◌, subst, arith}
+use Rattle.std.proofs.Common.{◌<◌, length, refl, ap, ◌∙◌, arith}
 use Rattle.av1_block.specs.declared.me_stats.MEStats.{MEStats}
 use Rattle.av1_tiling.specs.Views.{Part, Motion}
 use Rattle.av1_tiling.specs.TileViews.{motion_part_at, with_motion_records}
