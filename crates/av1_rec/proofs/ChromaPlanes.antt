@@ -1,5 +1,5 @@
 -- Chroma planes have samples wherever there is chroma.
-use Rattle.std.proofs.Common.{◌≡◌, ℕ, ◌*◌, ◌<◌, ◌≤◌, Option, Some, None, arith}
+use Rattle.std.proofs.Common.{◌≡◌, ℕ, ◌<◌, ◌≤◌, Some, None, arith}
 use Rattle.av1_plane.specs.Layout.{frame_layout}
 use Rattle.av1_plane.specs.Sampling.{decimation}
 use Rattle.av1_plane.specs.declared.sampling.ChromaSampling.{ChromaSampling}

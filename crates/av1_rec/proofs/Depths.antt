@@ -1,5 +1,5 @@
 -- The sample type of a depth holds the samples of the depth and of its number of digits.
-use Rattle.std.proofs.Common.{◌≡◌, ℕ, ◌^◌, ◌≤◌, ◌⊎◌, inl, inr, ltb, lit≤, refl, sym, subst, false, eqb}
+use Rattle.std.proofs.Common.{◌≡◌, ℕ, ◌^◌, ◌≤◌, inl, inr, ltb, lit≤, refl, sym, subst}
 use Rattle.av1_tiling.specs.Frames.{FitsDepth}
 use Rattle.av1_rec.specs.Header.{IsSampleDepth}
 use Rattle.av1_rec.specs.Tile.{digit_limit}

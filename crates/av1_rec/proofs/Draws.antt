@@ -1,5 +1,5 @@
 -- Draws go on from where earlier ones ended.
-use Rattle.std.proofs.Common.{◌≡◌, ℕ, zero, suc, ◌+◌, ◌*◌, refl, sym, ap, ◌∙◌, arith}
+use Rattle.std.proofs.Common.{◌≡◌, ℕ, zero, suc, ◌+◌, refl, sym, ap, ◌∙◌, arith}
 use Rattle.av1_rec.specs.Generated.{next_state, state_after}
 
 -- the state before any draw is the first state

@@ -1,5 +1,5 @@
 -- The frame that is made from a number is a right text: its source has the picture's sides and 8 bits.
-use Rattle.std.proofs.Common.{◌≡◌, ℕ, ℤ, pos, ◌+◌, ◌*◌, ◌/◌, ◌%◌, ◌^◌, ◌<◌, List, length, get_or, ◌==◌, Bool, true, All, Result, Ok, refl, sym, subst, ap, ◌∙◌, arith}
+use Rattle.std.proofs.Common.{◌≡◌, ℕ, ℤ, pos, ◌+◌, ◌*◌, ◌/◌, ◌%◌, ◌^◌, ◌<◌, List, length, get_or, ◌==◌, true, All, Ok, refl, sym, subst, ap, ◌∙◌, arith}
 use Rattle.std.specs.List.{list_all}
 use Rattle.std.proofs.lemmas.List.Sums.{list_all-from_AllPass}
 use Rattle.std.proofs.lemmas.Nat.{mod_below}
@@ -17,7 +17,7 @@ use Rattle.av1_rec.specs.Text.{Said, tiling}
 use Rattle.av1_rec.proofs.FirstValues.{first_count, first_at}
 
 -- what holds of each value of a function holds of the list of its first values
-values_all : {A : Type 0} (P : A → Type 0) (f : ℕ → A) → ((k : ℕ) → P (f k)) → (n : ℕ) → All P (first_values f n)
+pub values_all : {A : Type 0} (P : A → Type 0) (f : ℕ → A) → ((k : ℕ) → P (f k)) → (n : ℕ) → All P (first_values f n)
 values_all P f each n k d l =
     let inside : k < n = let count = first_count f n in omega (arith, count, l) in
     subst P (sym (first_at f n k d inside)) (each k)

@@ -29,3 +29,7 @@ pub mod WrittenShapes
 pub mod UnitsFit
 pub mod ChromaPlanes
 pub mod Refused
+pub mod OwnEntries
+pub mod CodedSides
+pub mod CodedValues
+pub mod OwnFrame

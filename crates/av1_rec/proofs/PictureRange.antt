@@ -14,11 +14,11 @@ use Rattle.av1_rec.proofs.FirstValues.{first_count, first_at}
 
 module _ (bound : ℕ) (some : 0 < bound) where
   -- The sample 0 is below the bound.
-  zero_below : InDepth bound (pos 0)
+  pub zero_below : InDepth bound (pos 0)
   zero_below = (grind arith, grind arith)
 
   -- an entry of a list whose entries are below the bound, or 0 past its end
-  entry_below : (xs : List ℤ) → All (InDepth bound) xs → (i : ℕ) → InDepth bound (get_or xs i (pos 0))
+  pub entry_below : (xs : List ℤ) → All (InDepth bound) xs → (i : ℕ) → InDepth bound (get_or xs i (pos 0))
   entry_below xs all i = elim (cases_lt i (length xs)) [
     | inl inside ↦ all i (pos 0) inside
     | inr past ↦ subst (InDepth bound) (sym (get_or_past xs i (pos 0) past)) zero_below
@@ -32,7 +32,7 @@ module _ (bound : ℕ) (some : 0 < bound) where
   ]
 
   -- Each sample of a picture is below the bound, also past its end.
-  sample_below : (rows : List (List ℤ)) → AreBelow bound rows → (x y : ℕ) → InDepth bound (picture_sample rows x y)
+  pub sample_below : (rows : List (List ℤ)) → AreBelow bound rows → (x y : ℕ) → InDepth bound (picture_sample rows x y)
   sample_below rows all x y = entry_below (get_or rows y []) (row_below rows all y) x
 
   -- The first values of a function are below the bound where each of its values is.

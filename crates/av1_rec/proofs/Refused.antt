@@ -1,5 +1,5 @@
 -- The answer where a group is refused.
-use Rattle.std.proofs.Common.{◌≡◌, ℕ, List, Vec, Global, Result, Ok, Err, IfOk, Option, Some, None, false, true, refl, sym, ◌∙◌, subst}
+use Rattle.std.proofs.Common.{◌≡◌, ℕ, Vec, Global, Result, Ok, Err, IfOk, Option, Some, None, false, true, refl, sym, ◌∙◌, subst}
 use Rattle.std.specs.Result.{IsErr}
 use Rattle.av1_frame.specs.declared.group_error.GroupError.{GroupError}
 use Rattle.av1_frame.specs.Coding.{refusal}

@@ -1,5 +1,5 @@
 -- Recorded units of which there are as many as a view has.
-use Rattle.std.proofs.Common.{◌≡◌, ◌==◌, ◌&&◌, length, List, true, eqb}
+use Rattle.std.proofs.Common.{◌≡◌, ◌&&◌, length, List, true, eqb}
 use Rattle.std.proofs.lemmas.Bool.{and_parts, eqb-true}
 use Rattle.av1_plane.specs.declared.three.Three.{Three}
 use Rattle.av1_block.specs.declared.restoration_unit.RestorationUnit.{RestorationUnit}

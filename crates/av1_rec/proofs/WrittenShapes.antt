@@ -1,5 +1,5 @@
 -- Writing a tile's recorded rows and blocks leaves each part as long as it was.
-use Rattle.std.proofs.Common.{◌≡◌, ℕ, ℤ, ◌+◌, ◌-◌, List, ◌++◌, length, take, drop, ap, ◌∙◌, arith}
+use Rattle.std.proofs.Common.{◌≡◌, ℤ, List, ◌++◌, length, drop, ap, ◌∙◌, arith}
 use Rattle.std.proofs.lemmas.List.{length-take-le, length-append, length-drop}
 use Rattle.av1_plane.specs.declared.three.Three.{Three}
 use Rattle.av1_block.specs.Cut.{with_cut}

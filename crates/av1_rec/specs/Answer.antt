@@ -61,6 +61,13 @@ IsOfText status.NoTiling = Unit {0}
 IsOfText (status.Group error) = Unit {0}
 IsOfText s = ⊥
 
+-- how a run that makes its own frame may end: done, without memory, or with a write that failed
+abbrev pub IsOfOwnFrame : Status → Type 0
+IsOfOwnFrame status.Done = Unit {0}
+IsOfOwnFrame status.OutOfMemory = Unit {0}
+IsOfOwnFrame status.WriteFault = Unit {0}
+IsOfOwnFrame s = ⊥
+
 -- what is printed after a read that failed
 abbrev pub read_refusal : List ℕ
 read_refusal = refusal_line status.ReadFault

@@ -49,3 +49,10 @@ reads (Gen seed workers) = false
 abbrev pub asks_for_text : Option Command → Bool
 asks_for_text None = false
 asks_for_text (Some command) = reads command
+
+-- whether there is a command and it makes its own frame
+abbrev pub makes_frame : Option Command → Bool
+makes_frame None = false
+makes_frame (Some (Group workers)) = false
+makes_frame (Some Tiles) = false
+makes_frame (Some (Gen seed workers)) = true

@@ -1,6 +1,6 @@
 -- A frame made from a number alone: its source has slow slopes and noise, each sample is coded as the
 -- one at the corner of its 8x8 block, and blocks and restoration units change from place to place.
-use Rattle.std.specs.Prelude.{ℕ, zero, suc, ℤ, pos, neg_ℤ, ◌+◌, ◌*◌, ◌/◌, ◌%◌, ◌^◌, List, [], ◌∷◌, ◌==◌, Bool, true, false, if◌then◌else◌, Option, Some, None, replicate}
+use Rattle.std.specs.Prelude.{ℕ, zero, suc, ℤ, pos, neg_ℤ, ◌+◌, ◌*◌, ◌/◌, ◌%◌, ◌^◌, List, [], ◌∷◌, ◌==◌, true, false, if◌then◌else◌, Option, Some, None, replicate}
 use Rattle.av1_plane.specs.declared.sampling.ChromaSampling.{ChromaSampling}
 use Rattle.av1_plane.specs.declared.sampling.ChromaSampling.TheVariants.{Cs420}
 use Rattle.av1_plane.specs.declared.three.Three.{Three}
@@ -25,7 +25,7 @@ use Rattle.av1_rec.specs.BlockTable.{first_values}
 use Rattle.av1_rec.specs.Parameters.{frame_parameters}
 use Rattle.av1_rec.specs.Picture.{picture_sample}
 use Rattle.av1_rec.specs.Recorded.{Recorded, Coded}
-use Rattle.av1_rec.specs.Text.{Said, no_samples, luma_picture, chroma_picture}
+use Rattle.av1_rec.specs.Text.{Said, luma_picture, chroma_picture}
 
 -- the state of the draws after one more draw
 abbrev pub next_state : ℕ → ℕ

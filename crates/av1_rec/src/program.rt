@@ -1,7 +1,7 @@
 //! The run of a program: its words, where bytes come from and go to, how a run ends, and what it prints.
 ghost use Rattle.std.specs.Prelude.{◌≡◌, ◌≤◌, ◌+◌, ◌^◌, map, length, false, true, IfSome, IfOk, Some, [], string_bytes};
-ghost use Rattle.av1_rec.specs.Answer.{fault_answer, text_answer, grid_answer, answer_of, asked, IsOfText, IsFaultless, Made, Finished, Answered};
-ghost use Rattle.av1_rec.specs.Commands.{command_of, asks_for_text};
+ghost use Rattle.av1_rec.specs.Answer.{fault_answer, text_answer, grid_answer, answer_of, asked, IsOfText, IsOfOwnFrame, IsFaultless, Made, Finished, Answered};
+ghost use Rattle.av1_rec.specs.Commands.{command_of, asks_for_text, makes_frame};
 ghost use Rattle.av1_rec.specs.Told.{Rose, LosesCount};
 
 pub(crate) mod commands;
@@ -189,7 +189,8 @@ fn finish<K: Sink>(sink: &mut K, status: Status, printed: &[u8]) -> Status
 ///
 /// `group N` reads a text from `source` to its end, codes its tiles by N workers and writes the report of
 /// its tile group. `tiles` reads a text to its end and writes the tile grid of its header. `gen K N` makes
-/// a frame from K, codes it by N workers and writes its summary. It reads nothing, and so do other words.
+/// a frame from K, codes it by N workers and writes its summary. It refuses nothing: it ends with `Done`,
+/// without memory or with a failed write. It reads nothing, and so do other words.
 /// The gate hears of each tile that a worker claims. What is written doesn't depend on N.
 #[tactic(auto, using(crate::proofs::Ends::ends))]
 pub fn run<R: Threads + Sync, S: Source, K: Sink, G: Gate>(
@@ -216,6 +217,8 @@ pub fn run<R: Threads + Sync, S: Source, K: Sink, G: Gate>(
         → K.faults sink.new ≡ K.faults sink.old }
     ensures unread { asks_for_text (command_of (map string_bytes words.now)) ≡ false
         → source.new ≡ source.old }
+    ensures own_frame { makes_frame (command_of (map string_bytes words.now)) ≡ true
+        → IsOfOwnFrame result }
 {
     let (status, printed) = make(rt, alloc, words, source, gate);
     finish(sink, status, &printed)

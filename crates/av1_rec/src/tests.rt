@@ -2,10 +2,13 @@ ghost use Rattle.std.specs.Prelude.{None};
 
 use super::*;
 use crate::frame::picture::source_frame;
-use crate::program::report::{Results, report};
+use crate::generated::{HEADER as OWN_HEADER, generated};
+use crate::program::group::group_of;
+use crate::program::report::{Form, Results, report};
 use crate::text::block_line::BlockLine;
 use crate::text::block_table::blocks_said;
 use crate::text::header::FrameFormat;
+use crate::text::tiling_of;
 use av1_block::{Block, BlockSize};
 use av1_frame::{Gate, GroupError, OpenGate};
 use av1_plane::{ChromaSampling, Plane, PlaneRegion, Rect, Three};
@@ -495,6 +498,28 @@ fn fills_a_frame(rt: HostRuntime) -> Result<(), Fail> {
     ] {
         assert!(rt; plane.samples.first() == Some(&first));
         assert!(rt; plane.samples.last() == Some(&last));
+    }
+    Ok(())
+}
+
+// The summary of the frame of 200 by 16 samples that 7 makes: its text was written by another program, and
+// `group 1` reported it.
+const OWN_SUMMARY: &[u8] =
+    b"levels 2 1 2 1\nsize_bytes 2\ncontext_tile 1\ngroup_len 1903\nsum 0 95303\nsum 1 69328\nsum 2 121088\nend\n";
+
+#[test]
+fn generates_a_small_frame(rt: HostRuntime) -> Result<(), Fail> {
+    let alloc = rt.alloc();
+    let mut header = OWN_HEADER;
+    header.format.width = 200;
+    header.format.height = 16;
+    header.target.rows_log2 = 0;
+    for workers in [1, 2] {
+        let tiling = tiling_of(&header).expect(&rt, "the frame has a tiling");
+        let text = generated(alloc, &header, tiling, 7)?;
+        let (status, printed) = group_of(&rt, alloc, text, Form::Summary, workers, &OpenGate)?;
+        assert_eq!(rt; status, Status::Done);
+        assert_eq!(rt; printed.as_slice(), OWN_SUMMARY);
     }
     Ok(())
 }

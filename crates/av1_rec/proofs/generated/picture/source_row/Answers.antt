@@ -1,5 +1,5 @@
-use Rattle.std.proofs.Common.{◌≡◌, pos, refl, sym, ap, ◌∙◌}
-use Rattle.av1_rec.specs.Generated.{next_state, source_sample, state_after}
+use Rattle.std.proofs.Common.{pos, refl, sym, ap, ◌∙◌}
+use Rattle.av1_rec.specs.Generated.{next_state, source_sample}
 use Rattle.av1_rec.proofs.Draws.{no_draw, one_draw}
 use Rattle.av1_rec.proofs.FirstValues.{values_more}
 use Rattle.av1_rec.proofs.generated.picture.source_row.Goals as goal

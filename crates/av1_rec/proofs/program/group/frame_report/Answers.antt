@@ -1,4 +1,4 @@
-use Rattle.std.proofs.Common.{rules, ◌≡◌, ℕ, ◌*◌, ◌<◌, Some, ap, sym, subst, ◌∙◌}
+use Rattle.std.proofs.Common.{rules, ◌≡◌, ℕ, ◌<◌, Some, ap, sym, subst, ◌∙◌}
 use Rattle.av1_plane.specs.Layout.{frame_layout}
 use Rattle.av1_plane.specs.Sampling.{decimation}
 use Rattle.av1_plane.specs.declared.plane.PlaneConfig.{PlaneConfig}
