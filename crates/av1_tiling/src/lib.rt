@@ -27,6 +27,7 @@ mod tile_context;
 mod tile_context_iter;
 mod tile_limits;
 mod tile_motion;
+mod tile_parts;
 mod tile_rects;
 mod tile_restoration_plane;
 mod tile_restoration_plane_mut;

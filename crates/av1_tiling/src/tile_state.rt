@@ -1,17 +1,15 @@
 use crate::deblock_state::DeblockState;
 use crate::frame_state::FrameState;
 use crate::part::{cut_frame, cut_units, motion_rect, part_places, samples_rect};
-use crate::part_place::PartPlace;
-use crate::plane_part::PlanePart;
 use crate::putting::{put_frame, put_motion, put_units};
-use crate::restoration_plane::RestorationPlaneConfig;
 use crate::restoration_state::RestorationState;
 use crate::segmentation_state::SegmentationState;
 use crate::tile_motion::TileMotion;
+use crate::tile_parts::TileParts;
 use crate::tile_restoration_plane::TileRestorationPlane;
 use crate::tile_restoration_state::TileRestorationState;
 use crate::tile_restoration_state_mut::TileRestorationStateMut;
-use av1_block::{Cut, FrameMEStats, MiTileState, RestorationUnit};
+use av1_block::{FrameMEStats, MiTileState, RestorationUnit};
 use av1_plane::{Frame, OutOfMemory, Pixel, Plane, PlaneSuperBlockOffset, Three, TileRect};
 use std::alloc::Global;
 use std::marker::Model;
@@ -45,11 +43,7 @@ pub struct TileStateMut<T: Pixel> {
     pub segmentation: SegmentationState,
     /// What is known of the tile's coded units of 4 by 4 luma samples.
     pub coded_block_info: MiTileState,
-    rec: Three<PlanePart<T>>,
-    places: Three<PartPlace>,
-    units: Three<Cut<RestorationUnit>>,
-    unit_layouts: Three<RestorationPlaneConfig>,
-    me_stats: TileMotion,
+    parts: Box<TileParts<T>>,
 }
 
 impl<T: Pixel> Model for TileStateMut<T> {
@@ -73,13 +67,13 @@ impl<T: Pixel> Model for TileStateMut<T> {
       deblock = t.deblock;
       segmentation = t.segmentation;
       coded_block_info = t.coded_block_info;
-      rec = view_parts T.number t.rec;
-      places = t.places;
-      units = view_units t.units;
-      unit_layouts = t.unit_layouts;
-      me_stats = t.me_stats.parts;
-      mi_cols = t.me_stats.mi_cols;
-      mi_rows = t.me_stats.mi_rows;
+      rec = view_parts T.number t.parts.value.rec;
+      places = t.parts.value.places;
+      units = view_units t.parts.value.units;
+      unit_layouts = t.parts.value.unit_layouts;
+      me_stats = t.parts.value.me_stats.parts;
+      mi_cols = t.parts.value.me_stats.mi_cols;
+      mi_rows = t.parts.value.me_stats.mi_rows;
     } };
 }
 
@@ -97,9 +91,9 @@ impl<T: Pixel> TileStateMut<T> {
         ensures value { map T.number result.now ≡ (plane_at self.old.rec pli).entries }
     {
         match pli {
-            0 => self.rec.y.samples_mut(),
-            1 => self.rec.u.samples_mut(),
-            _ => self.rec.v.samples_mut(),
+            0 => self.parts.rec.y.samples_mut(),
+            1 => self.parts.rec.u.samples_mut(),
+            _ => self.parts.rec.v.samples_mut(),
         }
     }
 }
@@ -119,9 +113,9 @@ impl<T: Pixel> TileStateMut<T> {
         ensures value { result.now ≡ (plane_at self.old.units pli).entries }
     {
         match pli {
-            0 => self.units.y.entries_mut(),
-            1 => self.units.u.entries_mut(),
-            _ => self.units.v.entries_mut(),
+            0 => self.parts.units.y.entries_mut(),
+            1 => self.parts.units.u.entries_mut(),
+            _ => self.parts.units.v.entries_mut(),
         }
     }
 
@@ -131,9 +125,9 @@ impl<T: Pixel> TileStateMut<T> {
         ensures { result.now ≡ (plane_at self.now.units pli).entries }
     {
         match pli {
-            0 => self.units.y.entries(),
-            1 => self.units.u.entries(),
-            _ => self.units.v.entries(),
+            0 => self.parts.units.y.entries(),
+            1 => self.parts.units.u.entries(),
+            _ => self.parts.units.v.entries(),
         }
     }
 }
@@ -150,9 +144,9 @@ impl<T: Pixel> TileStateMut<T> {
             ≡ result.width * result.height }
     {
         match pli {
-            0 => self.units.y.rect(),
-            1 => self.units.u.rect(),
-            _ => self.units.v.rect(),
+            0 => self.parts.units.y.rect(),
+            1 => self.parts.units.u.rect(),
+            _ => self.parts.units.v.rect(),
         }
     }
 }
@@ -167,9 +161,9 @@ impl<T: Pixel> TileStateMut<T> {
         ensures { map T.number result.now ≡ (plane_at self.now.rec pli).entries }
     {
         match pli {
-            0 => self.rec.y.samples(),
-            1 => self.rec.u.samples(),
-            _ => self.rec.v.samples(),
+            0 => self.parts.rec.y.samples(),
+            1 => self.parts.rec.u.samples(),
+            _ => self.parts.rec.v.samples(),
         }
     }
 
@@ -180,9 +174,9 @@ impl<T: Pixel> TileStateMut<T> {
         ensures whole { length (plane_at self.now.rec pli).entries ≡ result.width * result.height }
     {
         match pli {
-            0 => self.rec.y.rect(),
-            1 => self.rec.u.rect(),
-            _ => self.rec.v.rect(),
+            0 => self.parts.rec.y.rect(),
+            1 => self.parts.rec.u.rect(),
+            _ => self.parts.rec.v.rect(),
         }
     }
 }
@@ -199,9 +193,9 @@ impl<T: Pixel> TileStateMut<T> {
     {
         TileRestorationState {
             planes: Three {
-                y: TileRestorationPlane::of_cut(&self.unit_layouts.y, &self.units.y),
-                u: TileRestorationPlane::of_cut(&self.unit_layouts.u, &self.units.u),
-                v: TileRestorationPlane::of_cut(&self.unit_layouts.v, &self.units.v),
+                y: TileRestorationPlane::of_cut(&self.parts.unit_layouts.y, &self.parts.units.y),
+                u: TileRestorationPlane::of_cut(&self.parts.unit_layouts.u, &self.parts.units.u),
+                v: TileRestorationPlane::of_cut(&self.parts.unit_layouts.v, &self.parts.units.v),
             },
         }
     }
@@ -214,7 +208,8 @@ impl<T: Pixel> TileStateMut<T> {
         ensures u { LendsUnitPart self.old.unit_layouts.u self.old.units.u result.planes.u }
         ensures v { LendsUnitPart self.old.unit_layouts.v self.old.units.v result.planes.v }
     {
-        TileRestorationStateMut::of_cuts(&self.unit_layouts, &mut self.units)
+        let parts = self.parts.as_mut();
+        TileRestorationStateMut::of_cuts(&parts.unit_layouts, &mut parts.units)
     }
 }
 
@@ -253,6 +248,14 @@ impl<T: Pixel> TileStateMut<T> {
             luma_cfg.height / 4,
         )?;
         let coded_block_info = MiTileState::new(alloc, width / 4, height / 4)?;
+        let parts = TileParts {
+            rec,
+            places: part_places(&fs.rec, luma),
+            units,
+            unit_layouts: fs.restoration.layouts(),
+            me_stats,
+        };
+        let parts = Box::new(alloc, parts)?;
         Ok(TileStateMut {
             sbo,
             sb_size_log2,
@@ -268,11 +271,7 @@ impl<T: Pixel> TileStateMut<T> {
             deblock: fs.deblock,
             segmentation: fs.segmentation,
             coded_block_info,
-            rec,
-            places: part_places(&fs.rec, luma),
-            units,
-            unit_layouts: fs.restoration.layouts(),
-            me_stats,
+            parts,
         })
     }
 }
@@ -305,8 +304,8 @@ impl<T: Pixel> TileStateMut<T> {
         ensures motion { me.new
             ≡ put_motion (me.old) self.now.me_stats }
     {
-        put_frame(rec, &self.rec);
-        put_units(units, &self.units);
-        put_motion(me, self.me_stats.cuts());
+        put_frame(rec, &self.parts.rec);
+        put_units(units, &self.parts.units);
+        put_motion(me, self.parts.me_stats.cuts());
     }
 }

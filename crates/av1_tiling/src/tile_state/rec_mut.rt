@@ -18,10 +18,11 @@ impl<T: Pixel> TileStateMut<T> {
     pub fn rec_mut(&mut self) -> TileMut<'_, T>
         ensures { LendsParts T.number self.old.places self.old.rec result }
     {
-        let Three { y, u, v } = &mut self.rec;
-        let y = lent_part(&mut y.plane, &self.places.y);
-        let u = lent_part(&mut u.plane, &self.places.u);
-        let v = lent_part(&mut v.plane, &self.places.v);
+        let parts = self.parts.as_mut();
+        let Three { y, u, v } = &mut parts.rec;
+        let y = lent_part(&mut y.plane, &parts.places.y);
+        let u = lent_part(&mut u.plane, &parts.places.u);
+        let v = lent_part(&mut v.plane, &parts.places.v);
         TileMut {
             planes: Three { y, u, v },
         }
@@ -42,8 +43,9 @@ impl<T: Pixel> TileStateMut<T> {
             × FnOnceReturnsAtMut F.FnOnce work a result b
             × (self.new ≡ with_tile_left T.number self.old b) }
     {
-        let Three { y, u, v } = &mut self.rec;
-        with_parts(&self.places, y, u, v, work)
+        let parts = self.parts.as_mut();
+        let Three { y, u, v } = &mut parts.rec;
+        with_parts(&parts.places, y, u, v, work)
     }
 }
 

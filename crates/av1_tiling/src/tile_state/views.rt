@@ -28,9 +28,9 @@ impl<T: Pixel> TileStateMut<T> {
     {
         Tile {
             planes: Three {
-                y: part_region(&self.rec.y, &self.places.y),
-                u: part_region(&self.rec.u, &self.places.u),
-                v: part_region(&self.rec.v, &self.places.v),
+                y: part_region(&self.parts.rec.y, &self.parts.places.y),
+                u: part_region(&self.parts.rec.u, &self.parts.places.u),
+                v: part_region(&self.parts.rec.v, &self.parts.places.v),
             },
         }
     }
@@ -43,9 +43,9 @@ impl<T: Pixel> TileStateMut<T> {
         let input = &self.input.planes;
         Tile {
             planes: Three {
-                y: stored_region(&input.y, part_rect(&self.rec.y, &self.places.y)),
-                u: stored_region(&input.u, part_rect(&self.rec.u, &self.places.u)),
-                v: stored_region(&input.v, part_rect(&self.rec.v, &self.places.v)),
+                y: stored_region(&input.y, part_rect(&self.parts.rec.y, &self.parts.places.y)),
+                u: stored_region(&input.u, part_rect(&self.parts.rec.u, &self.parts.places.u)),
+                v: stored_region(&input.v, part_rect(&self.parts.rec.v, &self.parts.places.v)),
             },
         }
     }
@@ -57,7 +57,7 @@ impl<T: Pixel> TileStateMut<T> {
         ensures { ShowsTablePart (motion_part_at self.now.me_stats i)
             self.now.mi_cols self.now.mi_rows result }
     {
-        self.me_stats.view(i)
+        self.parts.me_stats.view(i)
     }
 
     /// The same records, row by row, for writing.
@@ -67,7 +67,7 @@ impl<T: Pixel> TileStateMut<T> {
             (with_records self.old i)) }
         ensures value { result.now ≡ (motion_part_at self.old.me_stats i).entries }
     {
-        self.me_stats.records_mut(i)
+        self.parts.me_stats.records_mut(i)
     }
 
     /// The same view for writing. Afterwards the tile has the table that was left under the view,
@@ -79,7 +79,7 @@ impl<T: Pixel> TileStateMut<T> {
         ensures view { LendsTablePart (motion_part_at self.old.me_stats i)
             self.old.mi_cols self.old.mi_rows result }
     {
-        self.me_stats.view_mut(i)
+        self.parts.me_stats.view_mut(i)
     }
 
     /// The tile's luma samples in the frame, without those that fill its last superblocks.

@@ -8,7 +8,8 @@ use Rattle.av1_tiling.specs.Frames.{State, AreMotionTables, PartFits, frame_part
 use Rattle.av1_tiling.specs.Restoration.{layouts_of}
 use Rattle.av1_tiling.specs.UnitInfos.{blank_infos}
 use Rattle.av1_tiling.specs.TileRects.{samples_rect, motion_rect}
-use Rattle.av1_tiling.specs.Views.{PlaneView, view_frame, view_plane}
+use Rattle.av1_tiling.specs.Views.{PlaneView, view_frame, view_plane, view_parts, view_units}
+use Rattle.av1_tiling.specs.declared.tile_parts.TileParts.{TileParts}
 use Rattle.av1_tiling.proofs.Fits.{fits_y, fits_u, fits_v, motion_sides, motion_across, motion_down}
 use Rattle.av1_tiling.proofs.tile_state.TileStateMut.new.Goals as goal
 
@@ -93,6 +94,7 @@ returns g c =
     let cols = c.in_ok-me_stats.ensures.cols ∙ ap (λ (f : Three PlaneView). f.y.cfg.width / 4) frame_2 in
     let rows = c.in_ok-me_stats.ensures.rows ∙ ap (λ (f : Three PlaneView). f.y.cfg.height / 4) frame_2 in
     let info = c.in_ok-coded_block_info.ensures in
+    let kept = c.in_ok-parts.ensures.ok in
     let infos : c.in_ok-coded_block_info.coded_block_info ≡ blank_infos (width / 4) (height / 4) = λ i. record { entries = info.infos i; cols = info.cols i; rows = info.rows i } in
     λ i. record {
       superblock = superblock;
@@ -109,11 +111,11 @@ returns g c =
       deblock = ap (λ (s : State). s.deblock) view i;
       segmentation = ap (λ (s : State). s.segmentation) view i;
       coded_block_info = infos i;
-      rec = rec i;
-      places = places i;
-      units = unit_cuts i;
-      unit_layouts = unit_layouts i;
-      me_stats = me_stats i;
-      mi_cols = cols i;
-      mi_rows = rows i;
+      rec = (ap (λ (p : TileParts _). view_parts number p.rec) kept ∙ rec) i;
+      places = (ap (λ (p : TileParts _). p.places) kept ∙ places) i;
+      units = (ap (λ (p : TileParts _). view_units p.units) kept ∙ unit_cuts) i;
+      unit_layouts = (ap (λ (p : TileParts _). p.unit_layouts) kept ∙ unit_layouts) i;
+      me_stats = (ap (λ (p : TileParts _). p.me_stats.parts) kept ∙ me_stats) i;
+      mi_cols = (ap (λ (p : TileParts _). p.me_stats.mi_cols) kept ∙ cols) i;
+      mi_rows = (ap (λ (p : TileParts _). p.me_stats.mi_rows) kept ∙ rows) i;
     }
