@@ -24,14 +24,19 @@ use Rattle.av1_tiling.specs.Grid.{IsBuiltSide}
 use Rattle.av1_tiling.specs.Restoration.{Units, HasLayout}
 use Rattle.av1_tiling.specs.TileRects.{samples_rect, motion_rect, tile_superblock, tile_luma, block_columns, block_rows}
 use Rattle.av1_tiling.specs.TileViews.{HoldsInput, LiesInSides, motion_part_at, part_area}
-use Rattle.av1_tiling.specs.UnitViews.{LieInTable, HasUnitPlaces}
-use Rattle.av1_tiling.specs.Views.{PlaneView, Part}
+use Rattle.av1_tiling.specs.Views.{PlaneView, Part, TileState}
 use Rattle.av1_tiling.proofs.Fits.{fits_y, fits_u, fits_v, motion_across, motion_down}
 use Rattle.av1_tiling.proofs.Inside.{placed, luma_width, luma_height, blocks_are}
 use Rattle.av1_tiling.proofs.ViewPlaces.{tile_fits_y, tile_fits_u, tile_fits_v}
 
+-- A tile's units of all planes lie in the tables that their layouts name, so that views show all of them.
+pub record HasUnitPlaces (t : TileState) : Type 0 where
+  pub y : LiesInSides t.units.y.rect t.unit_layouts.y.cols t.unit_layouts.y.rows
+  pub u : LiesInSides t.units.u.rect t.unit_layouts.u.cols t.unit_layouts.u.rows
+  pub v : LiesInSides t.units.v.rect t.unit_layouts.v.cols t.unit_layouts.v.rows
+
 -- the units that a tile covers lie in a table of the layout's sides
-units_in_table : (cfg : RestorationPlaneConfig) (u : Units) → HasLayout cfg u → (superblock superblocks : ℕ × ℕ) → LieInTable u.cfg (unit_part u superblock superblocks).rect
+units_in_table : (cfg : RestorationPlaneConfig) (u : Units) → HasLayout cfg u → (superblock superblocks : ℕ × ℕ) → LiesInSides (unit_part u superblock superblocks).rect u.cfg.cols u.cfg.rows
 units_in_table cfg u made superblock superblocks =
     let r = (unit_part u superblock superblocks).rect in
     let cols : u.cols ≡ u.cfg.cols = made.cols ∙ sym (ap (λ (c : RestorationPlaneConfig). c.cols) made.layout) in

@@ -1,5 +1,5 @@
 -- A tile's view of a plane's restoration units: which unit a superblock of the tile belongs to.
-use Rattle.std.specs.Prelude.{ℕ, ℤ, pos, negsuc, ◌+◌, ◌-◌, ◌*◌, ◌/◌, ◌%◌, ◌^◌, ◌≤◌, ◌<◌, ◌≡◌, min, drop, ◌==◌, ◌&&◌, ◌||◌, Bool, not, nat_le, nat_lt, Option, Some, None, if◌then◌else◌, List, [], ◌∷◌}
+use Rattle.std.specs.Prelude.{ℕ, ℤ, pos, negsuc, ◌+◌, ◌-◌, ◌*◌, ◌/◌, ◌%◌, ◌^◌, ◌≤◌, ◌<◌, ◌≡◌, min, max, drop, ◌==◌, ◌&&◌, ◌||◌, Bool, not, nat_le, nat_lt, Option, Some, None, if◌then◌else◌, List, [], ◌∷◌}
 use Rattle.std.specs.List.{slice_index_or}
 use Rattle.av1_plane.specs.declared.offset.SuperBlockOffset.{SuperBlockOffset}
 use Rattle.av1_plane.specs.declared.tile_rect.TileRect.{TileRect}
@@ -17,7 +17,7 @@ use Rattle.av1_tiling.specs.declared.tile_restoration_plane.TileRestorationPlane
 use Rattle.av1_tiling.specs.declared.tile_restoration_plane_mut.TileRestorationPlaneMut.{TileRestorationPlaneMut}
 use Rattle.av1_tiling.specs.Restoration.{Units}
 use Rattle.av1_tiling.specs.TileRects.{units_rect}
-use Rattle.av1_tiling.specs.Views.{Part, TileState}
+use Rattle.av1_tiling.specs.Views.{Part}
 
 -- the Wiener coefficients that the first units of a tile are coded against
 abbrev pub wiener_start : List (List ℤ)
@@ -154,21 +154,21 @@ pub record IsViewOf (v : TileRestorationPlaneMut) (w : TileRestorationPlane) : T
   pub cols : view_cols w.units ≡ (window v.units).cols
   pub rows : view_rows w.units ≡ (window v.units).rows
 
--- the units of a tile lie in the table of a plane with this layout
-pub record LieInTable (layout : RestorationPlaneConfig) (rect : TileRect) : Type 0 where
-  pub across : rect.x + rect.width ≤ layout.cols
-  pub down : rect.y + rect.height ≤ layout.rows
+-- a rectangle of units, as far as the table of a plane with this layout goes
+abbrev pub rect_in_table : RestorationPlaneConfig → TileRect → TileRect
+rect_in_table layout rect = record rect {
+  width = min rect.width (layout.cols - rect.x);
+  height = min rect.height (layout.rows - rect.y);
+}
 
--- a tile's units of all planes lie in the tables that their layouts name
-pub record HasUnitPlaces (t : TileState) : Type 0 where
-  pub y : LieInTable t.unit_layouts.y t.units.y.rect
-  pub u : LieInTable t.unit_layouts.u t.units.u.rect
-  pub v : LieInTable t.unit_layouts.v t.units.v.rect
-
--- a view of the units that were cut out
+-- a view of the units that were cut out, as far as the table of their layout goes
 abbrev pub ShowsUnitPart : RestorationPlaneConfig → Part RestorationUnit → TileRestorationPlane → Type 0
-ShowsUnitPart layout part v = ShowsUnits layout part.entries part.rect.width part.rect v
+ShowsUnitPart layout part v = ShowsUnits layout part.entries part.rect.width (rect_in_table layout part.rect) v
+
+-- the window of such a view; a rectangle that begins past the table has no unit in it
+abbrev pub part_window : RestorationPlaneConfig → TileRect → Window
+part_window layout rect = cut_window rect (max layout.cols rect.x) (max layout.rows rect.y)
 
 -- a view of them for writing
 abbrev pub LendsUnitPart : RestorationPlaneConfig → Part RestorationUnit → TileRestorationPlaneMut → Type 0
-LendsUnitPart layout part v = LendsUnits layout part.entries part.rect.width (cut_window part.rect layout.cols layout.rows) v
+LendsUnitPart layout part v = LendsUnits layout part.entries part.rect.width (part_window layout part.rect) v

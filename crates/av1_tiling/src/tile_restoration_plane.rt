@@ -2,16 +2,15 @@
 ghost use Rattle.std.specs.Prelude.{◌≡◌, ◌+◌, ◌*◌, ◌<◌, ◌≤◌, ◌^◌, IfSome, drop, option_map};
 ghost use Rattle.av1_plane.specs.Offset.{superblock_sum};
 ghost use Rattle.av1_block.specs.Tables.{view_entries, view_step, view_x, view_y, view_cols, view_rows};
-ghost use Rattle.av1_block.specs.Cut.{cut_rect};
 ghost use Rattle.av1_tiling.specs.Views.{view_cut};
-ghost use Rattle.av1_tiling.specs.UnitViews.{HasShifts, LieInTable, ShowsUnitPart, wiener_start, sgrproj_start, unit_index, unit_at, index_difference, view_sides, across_side, down_side, is_last_superblock, Serves};
+ghost use Rattle.av1_tiling.specs.UnitViews.{HasShifts, ShowsUnitPart, wiener_start, sgrproj_start, unit_index, unit_at, index_difference, view_sides, across_side, down_side, is_last_superblock, Serves};
 
 use crate::frame_invariants::FrameInvariants;
 use crate::restoration::{SGRPROJ_XQD_MID, WIENER_TAPS_MID};
 use crate::restoration_plane::{RestorationPlane, RestorationPlaneConfig};
 use crate::unit_side::UnitSide;
 use av1_block::{Cut, RestorationUnit, TileRestorationUnits};
-use av1_plane::{Pixel, PlaneSuperBlockOffset, TileSuperBlockOffset};
+use av1_plane::{Pixel, PlaneSuperBlockOffset, TileRect, TileSuperBlockOffset};
 
 /// A tile's units of a plane, for reading, and the filters that the first of them are coded against.
 #[derive(Debug, Drop)]
@@ -57,14 +56,14 @@ impl<'a> TileRestorationPlane<'a> {
         cfg: &'a RestorationPlaneConfig,
         cut: &'a Cut<RestorationUnit>,
     ) -> TileRestorationPlane<'a>
-        requires { LieInTable cfg.now (cut_rect cut.now) }
         ensures { ShowsUnitPart cfg.now (view_cut cut.now) result }
     {
+        let TileRect { x, y, .. } = cut.rect();
         TileRestorationPlane {
             rp_cfg: cfg,
             wiener_ref: [WIENER_TAPS_MID; 2],
             sgrproj_ref: SGRPROJ_XQD_MID,
-            units: TileRestorationUnits::from_cut(cut, cfg.cols, cfg.rows),
+            units: TileRestorationUnits::from_cut(cut, cfg.cols.max(x), cfg.rows.max(y)),
         }
     }
 

@@ -4,16 +4,15 @@ ghost use Rattle.av1_plane.specs.Offset.{superblock_sum};
 ghost use Rattle.av1_block.specs.Tables.{view_entries, view_step, view_x, view_y, view_cols, view_rows};
 ghost use Rattle.av1_block.specs.Writing.{window, table_under, entries_under, place_under, IsPlaced};
 ghost use Rattle.av1_block.specs.Windows.{frame_window};
-ghost use Rattle.av1_block.specs.Cut.{cut_rect};
 ghost use Rattle.av1_tiling.specs.Views.{view_cut};
-ghost use Rattle.av1_tiling.specs.UnitViews.{HasShifts, LieInTable, LendsUnitPart, wiener_start, sgrproj_start, unit_index, unit_under, index_difference, sides_under, across_side, down_side, is_last_superblock, Serves};
+ghost use Rattle.av1_tiling.specs.UnitViews.{HasShifts, LendsUnitPart, wiener_start, sgrproj_start, unit_index, unit_under, index_difference, sides_under, across_side, down_side, is_last_superblock, Serves};
 
 use crate::frame_invariants::FrameInvariants;
 use crate::restoration::{SGRPROJ_XQD_MID, WIENER_TAPS_MID};
 use crate::restoration_plane::{RestorationPlane, RestorationPlaneConfig};
 use crate::tile_restoration_plane::{TileRestorationPlane, across, down};
 use av1_block::{Cut, RestorationUnit, TileRestorationUnitsMut};
-use av1_plane::{Pixel, PlaneSuperBlockOffset, TileSuperBlockOffset};
+use av1_plane::{Pixel, PlaneSuperBlockOffset, TileRect, TileSuperBlockOffset};
 
 /// A tile's units of a plane, for reading and writing, and the filters that the first of them are
 /// coded against.
@@ -63,14 +62,14 @@ impl<'a> TileRestorationPlaneMut<'a> {
         cfg: &'a RestorationPlaneConfig,
         cut: &'a mut Cut<RestorationUnit>,
     ) -> TileRestorationPlaneMut<'a>
-        requires { LieInTable cfg.now (cut_rect cut.old) }
         ensures { LendsUnitPart cfg.now (view_cut cut.old) result }
     {
+        let TileRect { x, y, .. } = cut.rect();
         TileRestorationPlaneMut {
             rp_cfg: cfg,
             wiener_ref: [WIENER_TAPS_MID; 2],
             sgrproj_ref: SGRPROJ_XQD_MID,
-            units: TileRestorationUnitsMut::from_cut(cut, cfg.cols, cfg.rows),
+            units: TileRestorationUnitsMut::from_cut(cut, cfg.cols.max(x), cfg.rows.max(y)),
         }
     }
 

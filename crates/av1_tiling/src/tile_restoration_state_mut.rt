@@ -3,9 +3,8 @@ ghost use Rattle.std.specs.Prelude.{◌≡◌, ◌<◌, ◌^◌, is_some};
 ghost use Rattle.av1_plane.specs.Three.{plane_at};
 ghost use Rattle.av1_block.specs.Writing.{IsPlaced};
 ghost use Rattle.av1_tiling.specs.Restoration.{units_of};
-ghost use Rattle.av1_block.specs.Cut.{cut_rect};
 ghost use Rattle.av1_tiling.specs.Views.{view_cut};
-ghost use Rattle.av1_tiling.specs.UnitViews.{HasShifts, IsViewOf, LendsUnitPart, LendsTileUnits, LieInTable, unit_index, sides_under};
+ghost use Rattle.av1_tiling.specs.UnitViews.{HasShifts, IsViewOf, LendsUnitPart, LendsTileUnits, unit_index, sides_under};
 
 use crate::part::units_rect;
 use crate::restoration_plane::{RestorationPlane, RestorationPlaneConfig};
@@ -56,9 +55,6 @@ impl<'a> TileRestorationStateMut<'a> {
         layouts: &'a Three<RestorationPlaneConfig>,
         units: &'a mut Three<Cut<RestorationUnit>>,
     ) -> TileRestorationStateMut<'a>
-        requires y_lie { LieInTable layouts.now.y (cut_rect units.old.y) }
-        requires u_lie { LieInTable layouts.now.u (cut_rect units.old.u) }
-        requires v_lie { LieInTable layouts.now.v (cut_rect units.old.v) }
         ensures y { LendsUnitPart layouts.now.y (view_cut units.old.y) result.planes.y }
         ensures u { LendsUnitPart layouts.now.u (view_cut units.old.u) result.planes.u }
         ensures v { LendsUnitPart layouts.now.v (view_cut units.old.v) result.planes.v }

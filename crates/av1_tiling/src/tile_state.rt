@@ -182,11 +182,10 @@ impl<T: Pixel> TileStateMut<T> {
 }
 
 impl<T: Pixel> TileStateMut<T> {
-    ghost use Rattle.av1_tiling.specs.UnitViews.{HasUnitPlaces, ShowsUnitPart, LendsUnitPart};
+    ghost use Rattle.av1_tiling.specs.UnitViews.{ShowsUnitPart, LendsUnitPart};
 
-    /// The tile's restoration units, at their places in the frame's tables, where they lie.
+    /// The tile's restoration units, at their places in the frame's tables, as far as these tables go.
     pub fn restoration(&self) -> TileRestorationState<'_>
-        requires { HasUnitPlaces self.now }
         ensures y { ShowsUnitPart self.now.unit_layouts.y self.now.units.y result.planes.y }
         ensures u { ShowsUnitPart self.now.unit_layouts.u self.now.units.u result.planes.u }
         ensures v { ShowsUnitPart self.now.unit_layouts.v self.now.units.v result.planes.v }
@@ -200,10 +199,9 @@ impl<T: Pixel> TileStateMut<T> {
         }
     }
 
-    /// The tile's restoration units for writing, at their places in the frame's tables, where they
-    /// lie. What the tile has after a write is said by `units_mut` alone.
+    /// The tile's restoration units for writing, at their places in the frame's tables, as far as
+    /// these tables go. What the tile has after a write is said by `units_mut` alone.
     pub fn restoration_mut(&mut self) -> TileRestorationStateMut<'_>
-        requires { HasUnitPlaces self.old }
         ensures y { LendsUnitPart self.old.unit_layouts.y self.old.units.y result.planes.y }
         ensures u { LendsUnitPart self.old.unit_layouts.u self.old.units.u result.planes.u }
         ensures v { LendsUnitPart self.old.unit_layouts.v self.old.units.v result.planes.v }
