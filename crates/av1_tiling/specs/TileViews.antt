@@ -1,5 +1,5 @@
 -- What a tile's state and its context lend: each part at its place in the frame.
-use Rattle.std.specs.Prelude.{ℕ, ℤ, ◌≡◌, ◌+◌, ◌-◌, ◌*◌, ◌^◌, ◌≤◌, ◌<◌, List, drop, min, slice_set}
+use Rattle.std.specs.Prelude.{ℕ, ℤ, pos, ◌+ℤ◌, ◌≤ℤ◌, ◌≡◌, ◌+◌, ◌-◌, ◌*◌, ◌^◌, ◌≤◌, ◌<◌, List, drop, min, slice_set}
 use Rattle.std.specs.List.{slice_index_or}
 use Rattle.av1_plane.specs.declared.region.Rect.{Rect}
 use Rattle.av1_plane.specs.declared.region.PlaneRegion.{PlaneRegion}
@@ -47,11 +47,22 @@ pub record ShowsStored {X : Type 0} (number : X → ℤ) (plane : PlaneView) (re
   pub no_width : plane.cfg.width ≡ 0 → area_seen r ≡ no_area
   pub no_height : plane.cfg.height ≡ 0 → area_seen r ≡ no_area
 
+-- `count` places from `first` on, counted from place `origin`, are among the first `stored` ones
+pub record IsSpanIn (origin : ℕ) (first : ℤ) (count stored : ℕ) : Type 0 where
+  pub start : pos 0 ≤ℤ (pos origin +ℤ first)
+  pub past : (pos origin +ℤ first +ℤ pos count) ≤ℤ pos stored
+
+-- a region shows a rectangle of a plane where the plane stores it, and nothing where it doesn't
+pub record ShowsWhereStored {X : Type 0} (number : X → ℤ) (plane : PlaneView) (rect : Rect) (r : PlaneRegion X) : Type 0 where
+  pub stored : StoresRect plane.cfg rect → ShowsStored number plane rect r
+  pub elsewhere : ¬ StoresRect plane.cfg rect → area_seen r ≡ no_area
+  pub cfg : r.plane_cfg.now ≡ plane.cfg
+
 -- a tile shows a state's input at the places of the state's parts
 pub record ShowsInput {X : Type 0} (number : X → ℤ) (t : TileState) (tile : Tile X) : Type 0 where
-  pub y : ShowsStored number t.input.y (part_area t.places.y t.rec.y) tile.planes.y
-  pub u : ShowsStored number t.input.u (part_area t.places.u t.rec.u) tile.planes.u
-  pub v : ShowsStored number t.input.v (part_area t.places.v t.rec.v) tile.planes.v
+  pub y : ShowsWhereStored number t.input.y (part_area t.places.y t.rec.y) tile.planes.y
+  pub u : ShowsWhereStored number t.input.u (part_area t.places.u t.rec.u) tile.planes.u
+  pub v : ShowsWhereStored number t.input.v (part_area t.places.v t.rec.v) tile.planes.v
 
 -- the input of a state stores the rectangles of the state's parts
 pub record HoldsInput (t : TileState) : Type 0 where

@@ -1,17 +1,17 @@
 //! What a tile's state lends, at its place in the frame.
-ghost use Rattle.std.specs.Prelude.{◌≡◌, ◌⊎◌, ◌<◌, ◌^◌};
+ghost use Rattle.std.specs.Prelude.{◌≡◌, ◌⊎◌, ◌<◌, ◌^◌, true, false};
 ghost use Rattle.av1_plane.specs.Offset.{block_sum, superblock_sum};
-ghost use Rattle.av1_plane.specs.Regions.{StoresRect};
+ghost use Rattle.av1_plane.specs.Place.{IsInPlane};
 ghost use Rattle.av1_tiling.specs.Views.{view_plane, view_samples};
-ghost use Rattle.av1_tiling.specs.TileViews.{ShowsPart, ShowsParts, ShowsStored, ShowsInput, HoldsInput, ShowsTablePart, motion_part_at, part_area, state_rect, tile_first_block, tile_first_superblock};
+ghost use Rattle.av1_tiling.specs.TileViews.{ShowsPart, ShowsParts, ShowsWhereStored, ShowsInput, IsSpanIn, ShowsTablePart, motion_part_at, part_area, state_rect, tile_first_block, tile_first_superblock};
 
 use crate::part_place::PartPlace;
 use crate::plane_part::PlanePart;
 use crate::tile_state::TileStateMut;
 use av1_block::{MEStats, TileMEStats, TileMEStatsMut};
 use av1_plane::{
-    BlockOffset, Pixel, Plane, PlaneBlockOffset, PlaneRegion, PlaneSuperBlockOffset, Rect,
-    SuperBlockOffset, Three, Tile, TileBlockOffset, TileRect, TileSuperBlockOffset,
+    BlockOffset, Pixel, Plane, PlaneBlockOffset, PlaneConfig, PlaneRegion, PlaneSuperBlockOffset,
+    Rect, SuperBlockOffset, Three, Tile, TileBlockOffset, TileRect, TileSuperBlockOffset,
 };
 
 impl<T: Pixel> TileStateMut<T> {
@@ -35,9 +35,9 @@ impl<T: Pixel> TileStateMut<T> {
         }
     }
 
-    /// The tile's part of the input.
+    /// The tile's part of the input, in each plane that stores all of it; empty in a plane that
+    /// doesn't, as may be where another input was put into the state.
     pub fn input_tile(&self) -> Tile<'_, T>
-        requires { HoldsInput self.now }
         ensures { ShowsInput T.number self.now result }
     {
         let input = &self.input.planes;
@@ -152,10 +152,31 @@ fn part_region<'a, T: Pixel>(part: &'a PlanePart<T>, place: &'a PartPlace) -> Pl
     PlaneRegion::from_part(part.samples(), width, &place.cfg, part_rect(part, place))
 }
 
-// A rectangle of a plane.
-fn stored_region<T: Pixel>(plane: &Plane<T>, rect: Rect) -> PlaneRegion<'_, T>
-    requires { StoresRect plane.now.cfg rect }
-    ensures { ShowsStored T.number (view_plane T.number plane.now) rect result }
+// Whether `count` places from `first` on, counted from place `origin`, are among the first `stored`.
+fn is_span_in(origin: usize, first: isize, count: usize, stored: usize) -> bool
+    ensures inside { result ≡ true → IsSpanIn origin first count stored }
+    ensures outside { result ≡ false → ¬ IsSpanIn origin first count stored }
 {
-    PlaneRegion::new(plane, rect)
+    let start = origin as i128 + first as i128;
+    start >= 0 && start + count as i128 <= stored as i128
+}
+
+// Whether the stored rows of a plane hold a rectangle.
+fn stores_rect(cfg: &PlaneConfig, rect: &Rect) -> bool
+    ensures inside { result ≡ true → IsInPlane cfg.now rect.now }
+    ensures outside { result ≡ false → ¬ IsInPlane cfg.now rect.now }
+{
+    is_span_in(cfg.xorigin, rect.x, rect.width, cfg.stride)
+        && is_span_in(cfg.yorigin, rect.y, rect.height, cfg.alloc_height)
+}
+
+// A rectangle of a plane, where the plane stores it.
+fn stored_region<T: Pixel>(plane: &Plane<T>, rect: Rect) -> PlaneRegion<'_, T>
+    ensures { ShowsWhereStored T.number (view_plane T.number plane.now) rect result }
+{
+    if stores_rect(&plane.cfg, &rect) {
+        PlaneRegion::new(plane, rect)
+    } else {
+        PlaneRegion::empty(&plane.cfg)
+    }
 }
