@@ -24,10 +24,10 @@ use Rattle.av1_tiling.specs.Grid.{IsBuiltSide}
 use Rattle.av1_tiling.specs.Restoration.{Units, HasLayout}
 use Rattle.av1_tiling.specs.TileRects.{samples_rect, motion_rect, tile_superblock, tile_luma, block_columns, block_rows}
 use Rattle.av1_tiling.specs.TileViews.{HoldsInput, LiesInSides, motion_part_at, part_area}
-use Rattle.av1_tiling.specs.Views.{PlaneView, Part, TileState}
+use Rattle.av1_tiling.specs.Views.{PlaneView, Part, TileState, View, SameShape}
 use Rattle.av1_tiling.proofs.Fits.{fits_y, fits_u, fits_v, motion_across, motion_down}
 use Rattle.av1_tiling.proofs.Inside.{placed, luma_width, luma_height, blocks_are}
-use Rattle.av1_tiling.proofs.ViewPlaces.{tile_fits_y, tile_fits_u, tile_fits_v}
+use Rattle.av1_tiling.proofs.ViewPlaces.{motion_stays_put, tile_fits_y, tile_fits_u, tile_fits_v}
 
 -- A tile's units of all planes lie in the tables that their layouts name, so that views show all of them.
 pub record HasUnitPlaces (t : TileState) : Type 0 where
@@ -141,3 +141,18 @@ module _ (p : Parameters) (s : State) (made : IsStateFor p s) where
         subst (λ (r : TileRect). LiesInSides r (s.rec.y.cfg.width / 4) (s.rec.y.cfg.height / 4)) (sym here)
         (subst (λ (k : ℕ). LiesInSides (motion_rect superblock k luma.width luma.height) (s.rec.y.cfg.width / 4) (s.rec.y.cfg.height / 4)) (sym p.six)
         (record { across = motion_across s superblock t.sb_size_log2 luma.width luma.height lies p.six; down = motion_down s superblock t.sb_size_log2 luma.width luma.height lies p.six }))
+
+    -- a view that a coder made of the starting view of a tile
+    module _ (w : View) (shape : SameShape (view_of t s blocks n) w) where
+      -- The blocks of the view that a coder leaves lie in the frame's table of blocks.
+      pub coded_blocks_lie : LiesInSides w.blocks.rect (block_columns t) (block_rows t)
+      coded_blocks_lie = subst (λ (r : TileRect). LiesInSides r (block_columns t) (block_rows t)) (sym shape.blocks.rect) view_blocks_lie
+
+      -- The motion records of the view that a coder leaves lie in the frame's tables of them.
+      pub coded_motion_lies : (i : ℕ) → i < 8 → LiesInSides (motion_part_at w.ts.me_stats i).rect w.ts.mi_cols w.ts.mi_rows
+      coded_motion_lies i below =
+          let v = view_of t s blocks n in
+          let rect = motion_stays_put i v w shape in
+          subst (λ (r : TileRect). LiesInSides r w.ts.mi_cols w.ts.mi_rows) (sym rect)
+          (subst (λ (cols : ℕ). LiesInSides (motion_part_at v.ts.me_stats i).rect cols w.ts.mi_rows) (sym shape.mi_cols)
+          (subst (λ (rows : ℕ). LiesInSides (motion_part_at v.ts.me_stats i).rect v.ts.mi_cols rows) (sym shape.mi_rows) (view_motion_lies i below)))

@@ -270,8 +270,8 @@ coded_lies tables v w shape l = record {
   blocks = same_part (length tables.blocks.entries) tables.blocks.cols v.blocks w.blocks shape.blocks l.blocks;
 }
 
--- a view that keeps its rectangles keeps the rectangle of each motion part
-motion_stays_put : (i : ℕ) (v w : View) → SameShape v w → (motion_part i w).rect ≡ (motion_part i v).rect
+-- A view that keeps its rectangles keeps the rectangle of each motion part.
+pub motion_stays_put : (i : ℕ) (v w : View) → SameShape v w → (motion_part i w).rect ≡ (motion_part i v).rect
 motion_stays_put i v w shape = elim (cases_lt i (length v.ts.me_stats)) [
   | inl less ↦ (AllZip-get_or SameRect v.ts.me_stats w.ts.me_stats i no_part no_part shape.motion less).rect
   | inr past ↦

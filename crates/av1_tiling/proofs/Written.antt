@@ -38,6 +38,8 @@ records_written first v i records shape = record {
   motion = AllZip-set SameRect first.ts.me_stats v.ts.me_stats i _ shape.motion
       (λ d l. part_written _ _ records (AllZip-get_or SameRect first.ts.me_stats v.ts.me_stats i d no_part shape.motion l));
   blocks = shape.blocks;
+  mi_cols = shape.mi_cols;
+  mi_rows = shape.mi_rows;
   frame_cols = shape.frame_cols;
   frame_rows = shape.frame_rows;
 }
@@ -53,6 +55,8 @@ blocks_written first v blocks shape = record {
   v_units = shape.v_units;
   motion = shape.motion;
   blocks = part_written first.blocks v.blocks blocks shape.blocks;
+  mi_cols = shape.mi_cols;
+  mi_rows = shape.mi_rows;
   frame_cols = shape.frame_cols;
   frame_rows = shape.frame_rows;
 }
@@ -77,6 +81,8 @@ same_shape v = record {
   v_units = same_rect v.ts.units.v;
   motion = same_rects v.ts.me_stats;
   blocks = same_rect v.blocks;
+  mi_cols = refl;
+  mi_rows = refl;
   frame_cols = refl;
   frame_rows = refl;
 }

@@ -166,6 +166,8 @@ pub record SameShape (before after : View) : Type 0 where
   pub u_units : SameRect before.ts.units.u after.ts.units.u
   pub v_units : SameRect before.ts.units.v after.ts.units.v
   pub motion : AllZip SameRect before.ts.me_stats after.ts.me_stats
+  pub mi_cols : after.ts.mi_cols ≡ before.ts.mi_cols
+  pub mi_rows : after.ts.mi_rows ≡ before.ts.mi_rows
   pub blocks : SameRect before.blocks after.blocks
   pub frame_cols : after.frame_cols ≡ before.frame_cols
   pub frame_rows : after.frame_rows ≡ before.frame_rows

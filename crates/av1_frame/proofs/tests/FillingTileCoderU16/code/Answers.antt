@@ -32,6 +32,8 @@ filled_shape v sample unit block = record {
   v_units = same_rect v.ts.units.v;
   motion = same_rects v.ts.me_stats;
   blocks = filled v.blocks block;
+  mi_cols = refl;
+  mi_rows = refl;
   frame_cols = refl;
   frame_rows = refl;
 }

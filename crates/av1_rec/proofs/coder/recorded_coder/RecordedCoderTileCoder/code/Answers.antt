@@ -31,6 +31,8 @@ returns-in-Ok-clause-shape g c =
       u_units = record { rect = search rules; table_cols = search rules; length = u_units };
       v_units = record { rect = search rules; table_cols = search rules; length = v_units };
       blocks = record { rect = search rules; table_cols = search rules; length = blocks };
+      mi_cols = search rules;
+      mi_rows = search rules;
       frame_cols = search rules;
       frame_rows = search rules;
     }
