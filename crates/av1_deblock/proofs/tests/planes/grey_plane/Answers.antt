@@ -1,7 +1,7 @@
 use Rattle.std.proofs.Common.{◌≡◌, ℕ, zero, suc, ◌∷◌, ◌*◌, pos, map, replicate, refl, ap, ◌∙◌, sym, subst, arith}
 use Rattle.std.proofs.lemmas.List.Elements.{All-replicate}
 use Rattle.av1_plane.specs.Numbers.{Below, InDepth}
-use Rattle.av1_deblock.proofs.tests.grey_plane.Goals as goal
+use Rattle.av1_deblock.proofs.tests.planes.grey_plane.Goals as goal
 
 -- the numbers of equal samples
 map-replicate : (n x : ℕ) → map (λ (i : ℕ). pos i) (replicate n x) ≡ replicate n (pos x)
