@@ -8,7 +8,7 @@ use Rattle.std.proofs.lemmas.Bool.{cases_eq}
 use Rattle.av1_deblock.specs.Thresholds.{greatest_step, IsScale, over, first_level, variance, moved_line}
 use Rattle.av1_deblock.specs.Line.{distance, before, after}
 use Rattle.std.proofs.Common.{◌≢◌, inl, inr, subst, lit<, ◌-◌, max, min, Bool, if◌then◌else◌, true, false, sym, ◌∙◌, ◌/◌}
-use Rattle.av1_deblock.proofs.Thresholds.{capped, distance_by_level}
+use Rattle.av1_deblock.proofs.Thresholds.{capped_later, distance_by_level}
 
 -- the sum over no places is 0
 pub squares_none : (xs ys : List ℤ) (from : ℕ) → squares xs ys from 0 ≡ 0
@@ -41,12 +41,13 @@ below_wider a b xs l h = record { each = λ k d i. let r = h.each k d i in (r.0,
 -- a line's distances and errors give its error at each level
 pub profile_from : (s size : ℕ) (xs ys : List ℤ) (p : Profile) → IsScale s →
     p.unfiltered ≡ line_distance size xs ys → p.from ≡ min (first_level s size xs) 64 → p.high ≡ line_distance size (moved_line s size true xs) ys →
-    p.lost ≡ min (16 * over (variance xs (size / 2)) s) 64 → p.low ≡ line_distance size (moved_line s size false xs) ys →
+    p.lost ≡ max (min (first_level s size xs) 64) (min (16 * over (variance xs (size / 2)) s) 64) → p.low ≡ line_distance size (moved_line s size false xs) ys →
     p.unfiltered ≤ 268435456 → p.high ≤ 268435456 → p.low ≤ 268435456 → IsProfile s size xs ys p
 profile_from s size xs ys p k a f b l c la lb lc = record {
-  each = λ level h. rw (a, f, b, l, c) (capped (first_level s size xs) (16 * over (variance xs (size / 2)) s) _ _ _ level h ∙ sym (distance_by_level s size level xs ys k));
+  each = λ level h. rw (a, f, b, l, c) (capped_later (first_level s size xs) (16 * over (variance xs (size / 2)) s) _ _ _ level h ∙ sym (distance_by_level s size level xs ys k));
   limits = record {
     from = rw f (omega arith);
+    order = rw (f, l) (omega arith);
     lost = rw l (omega arith);
     unfiltered = la;
     high = lb;

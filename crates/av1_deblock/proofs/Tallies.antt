@@ -8,7 +8,8 @@ use Rattle.std.proofs.lemmas.Grind.{get_or-set_at}
 use Rattle.std.proofs.lemmas.Int.{ints}
 use Rattle.std.proofs.Math.IntN.{+ℤ_assoc, +ℤ_comm, +ℤ_idl, +ℤ_idr}
 use Rattle.av1_deblock.specs.Line.{sample, sum_below}
-use Rattle.av1_deblock.specs.Errors.{by_level, raised, running, IsBoundedBy, HasAdded}
+use Rattle.av1_deblock.specs.declared.profile.Profile.{Profile}
+use Rattle.av1_deblock.specs.Errors.{by_level, raised, running, jumped, profile_error, HasLimits, IsBoundedBy, HasAdded}
 
 -- the number v from level t on, and 0 below
 abbrev pub from_on : ℤ → ℕ → ℕ → ℤ
@@ -93,49 +94,99 @@ near_wider n m es l h = record {
   high = λ i. grind (arith, h.high i);
 }
 
--- the jumps at three levels sum to the value at a level
-jumps : (a b c : ℕ) (from last l : ℕ) → from ≤ last → ((pos 0 +ℤ from_on (pos a -ℤ pos 0) 0 l) +ℤ from_on (pos b -ℤ pos a) from l) +ℤ from_on (pos c -ℤ pos b) last l ≡ pos (if nat_le from l then (if nat_le last l then c else b) else a)
-jumps a b c from last l h = grind (arith, nat_tests)
+-- the error below the first level and the jumps at both levels sum to the value at a level
+jumps : (a b c : ℕ) (from lost l : ℕ) → from ≤ lost → (pos a +ℤ from_on (pos b -ℤ pos a) from l) +ℤ from_on (pos c -ℤ pos b) lost l ≡ pos (by_level from lost a b c l)
+jumps a b c from lost l h = grind (arith, nat_tests)
 
--- the third jump may stand at the later of both levels
-later : (from lost l : ℕ) (a b c : ℕ) → (if nat_le from l then (if nat_le (max from lost) l then c else b) else a) ≡ by_level from lost a b c l
-later from lost l a b c = grind (arith, nat_tests)
+-- one of two numbers that were added becomes another one by two jumps
+moved : (r a b : ℤ) (u e rest : ℕ) → (pos u +ℤ a) +ℤ b ≡ pos e → ((r +ℤ pos (u + rest)) +ℤ a) +ℤ b ≡ (r +ℤ pos e) +ℤ pos rest
+moved r a b u e rest h = omega (arith, ints)
 
--- four numbers have one sum in any grouping
-regrouped : (r p q s : ℤ) → ((r +ℤ p) +ℤ q) +ℤ s ≡ r +ℤ (((pos 0 +ℤ p) +ℤ q) +ℤ s)
-regrouped r p q s =
-    ap (λ z. z +ℤ s) (+ℤ_assoc r p q) ∙ +ℤ_assoc r (p +ℤ q) s
-    ∙ ap (λ z. r +ℤ ((z +ℤ q) +ℤ s)) (sym (+ℤ_idl p))
+-- a running sum with the jumps of a profile added is raised by them
+running_jumped : (es : List ℤ) (p : Profile) (l : ℕ) → length es ≡ 65 → HasLimits p → running (jumped es p) l ≡ (running es l +ℤ from_on (pos p.high -ℤ pos p.unfiltered) p.from l) +ℤ from_on (pos p.low -ℤ pos p.high) p.lost l
+running_jumped es p l long k =
+    let long1 = length-set es p.from (sample es p.from +ℤ (pos p.high -ℤ pos p.unfiltered)) ∙ long in
+    running_raised p.lost l (raised es p.from (pos p.high -ℤ pos p.unfiltered)) (pos p.low -ℤ pos p.high) (rw long1 (omega (arith, k.lost)))
+    ∙ ap (λ z. z +ℤ from_on (pos p.low -ℤ pos p.high) p.lost l) (running_raised p.from l es (pos p.high -ℤ pos p.unfiltered) (omega (arith, k.from)))
 
--- adding the error of a line to a tally adds it at each level
-pub line_added : (es : List ℤ) (a b c from lost m : ℕ) → length es ≡ 65 → from ≤ 64 → lost ≤ 64 → a ≤ m → b ≤ m → c ≤ m →
-    HasAdded (3 * m) (by_level from lost a b c) es (raised (raised (raised es 0 (pos a -ℤ pos 0)) from (pos b -ℤ pos a)) (max from lost) (pos c -ℤ pos b))
-line_added es a b c from lost m long lf ll la lb lc = record {
-  long = length-set _ _ _ ∙ length-set _ _ _ ∙ length-set _ _ _;
+-- the error of a line that was added unfiltered, among others, becomes its error at the level by its jumps
+pub line_moved : (es old : List ℤ) (p : Profile) (l rest before : ℕ) → length es ≡ 65 → HasLimits p → running es l ≡ (running old l +ℤ pos before) +ℤ pos (p.unfiltered + rest) →
+    running (jumped es p) l ≡ (running old l +ℤ pos (before + profile_error p l)) +ℤ pos rest
+line_moved es old p l rest before long k h =
+    running_jumped es p l long k
+    ∙ ap (λ z. (z +ℤ from_on (pos p.high -ℤ pos p.unfiltered) p.from l) +ℤ from_on (pos p.low -ℤ pos p.high) p.lost l) h
+    ∙ moved (running old l +ℤ pos before) _ _ p.unfiltered (profile_error p l) rest (jumps p.unfiltered p.high p.low p.from p.lost l k.order)
+    ∙ ap (λ z. z +ℤ pos rest) (+ℤ_assoc (running old l) (pos before) (pos (profile_error p l)))
+
+-- a jump at level 0 is there at every level
+from_first : (v : ℤ) (l : ℕ) → from_on v 0 l ≡ v
+from_first v l = grind (arith, nat_tests)
+
+-- the sum of four numbers, grouped from the right
+grouped : (r : ℤ) (a b c d : ℕ) → r +ℤ pos (a + b + c + d) ≡ (r +ℤ pos 0) +ℤ pos (a + (b + (c + (d + 0))))
+grouped r a b c d = omega (arith, ints)
+
+-- a sum with nothing more to add
+ended : (r : ℤ) (a b c d : ℕ) → (r +ℤ pos (0 + a + b + c + d)) +ℤ pos 0 ≡ r +ℤ pos (a + b + c + d)
+ended r a b c d = omega (arith, ints)
+
+-- the jumps of a profile move the bounds by twice its greatest error
+pub near_jumped : (n : ℕ) (es : List ℤ) (p : Profile) → length es ≡ 65 → HasLimits p → IsBoundedBy n es → IsBoundedBy (n + 536870912) (jumped es p)
+near_jumped n es p long k h =
+    let long1 = length-set es p.from (sample es p.from +ℤ (pos p.high -ℤ pos p.unfiltered)) ∙ long in
+    near_wider (n + 268435456 + 268435456) (n + 536870912) _ (omega arith)
+    (near_raised (n + 268435456) 268435456 p.lost (raised es p.from (pos p.high -ℤ pos p.unfiltered)) (pos p.low -ℤ pos p.high) (rw long1 (omega (arith, k.lost))) (grind (arith, k.high, k.low)) (grind (arith, k.high, k.low))
+    (near_raised n 268435456 p.from es (pos p.high -ℤ pos p.unfiltered) (omega (arith, k.from)) (grind (arith, k.high, k.unfiltered)) (grind (arith, k.high, k.unfiltered)) h))
+
+-- the jumps of a profile leave the number of entries
+pub long_jumped : (es : List ℤ) (p : Profile) → length es ≡ 65 → length (jumped es p) ≡ 65
+long_jumped es p long = length-set _ _ _ ∙ length-set _ _ _ ∙ long
+
+-- an error of a profile is at most the greatest of its errors
+error_within : (p : Profile) (l : ℕ) → HasLimits p → profile_error p l ≤ 268435456
+error_within p l k = grind (arith, nat_tests, k.unfiltered, k.high, k.low)
+
+-- adding the unfiltered errors of four lines, and then the jumps of each, adds the error of each at each level
+pub four_added : (old : List ℤ) (p q r s : Profile) → length old ≡ 65 → HasLimits p → HasLimits q → HasLimits r → HasLimits s →
+    HasAdded 4294967296 (λ l. profile_error p l + profile_error q l + profile_error r l + profile_error s l) old
+    (jumped (jumped (jumped (jumped (raised old 0 (pos (p.unfiltered + q.unfiltered + r.unfiltered + s.unfiltered))) p) q) r) s)
+four_added old p q r s long kp kq kr ks = record {
+  long = long4 ∙ sym long;
   sums = λ l h.
-      running_raised (max from lost) l es2 (pos c -ℤ pos b) (rw long2 (omega arith))
-      ∙ ap (λ z. z +ℤ from_on (pos c -ℤ pos b) (max from lost) l) (running_raised from l es1 (pos b -ℤ pos a) (rw long1 (omega arith)) ∙ ap (λ z. z +ℤ from_on (pos b -ℤ pos a) from l) (running_raised 0 l es (pos a -ℤ pos 0) (omega arith)))
-      ∙ regrouped (running es l) (from_on (pos a -ℤ pos 0) 0 l) (from_on (pos b -ℤ pos a) from l) (from_on (pos c -ℤ pos b) (max from lost) l)
-      ∙ ap (λ z. running es l +ℤ z) (jumps a b c from (max from lost) l (omega arith) ∙ ap (λ n. pos n) (later from lost l a b c));
-  small = λ l h. grind (arith, nat_tests);
+      let start : running es l ≡ (running old l +ℤ pos 0) +ℤ pos (p.unfiltered + (q.unfiltered + (r.unfiltered + (s.unfiltered + 0)))) =
+      running_raised 0 l old (pos total) (omega arith) ∙ ap (λ z. running old l +ℤ z) (from_first (pos total) l) ∙ grouped (running old l) p.unfiltered q.unfiltered r.unfiltered s.unfiltered in
+      let one = line_moved es old p l (q.unfiltered + (r.unfiltered + (s.unfiltered + 0))) 0 long0 kp start in
+      let two = line_moved (jumped es p) old q l (r.unfiltered + (s.unfiltered + 0)) (0 + profile_error p l) long1 kq one in
+      let three = line_moved (jumped (jumped es p) q) old r l (s.unfiltered + 0) (0 + profile_error p l + profile_error q l) long2 kr two in
+      line_moved (jumped (jumped (jumped es p) q) r) old s l 0 (0 + profile_error p l + profile_error q l + profile_error r l) long3 ks three
+      ∙ ended (running old l) (profile_error p l) (profile_error q l) (profile_error r l) (profile_error s l);
+  small = λ l h. omega (arith, error_within p l kp, error_within q l kq, error_within r l kr, error_within s l ks);
   near = λ n h.
-      near_wider (n + m + m + m) (n + 3 * m) _ (omega arith)
-      (near_raised (n + m + m) m (max from lost) es2 (pos c -ℤ pos b) (rw long2 (omega arith)) (grind arith) (grind arith)
-      (near_raised (n + m) m from es1 (pos b -ℤ pos a) (rw long1 (omega arith)) (grind arith) (grind arith)
-      (near_raised n m 0 es (pos a -ℤ pos 0) (omega arith) (grind arith) (grind arith) h)));
+      near_wider (n + 1073741824 + 536870912 + 536870912 + 536870912 + 536870912) (n + 4294967296) _ (omega arith)
+      (near_jumped _ _ s long3 ks (near_jumped _ _ r long2 kr (near_jumped _ _ q long1 kq (near_jumped _ _ p long0 kp
+      (near_raised n 1073741824 0 old (pos total) (omega arith) (grind arith) (grind (arith, kp.unfiltered, kq.unfiltered, kr.unfiltered, ks.unfiltered)) h)))));
 }
   where
-    es1 : List ℤ
-    es1 = raised es 0 (pos a -ℤ pos 0)
+    total : ℕ
+    total = p.unfiltered + q.unfiltered + r.unfiltered + s.unfiltered
 
-    es2 : List ℤ
-    es2 = raised es1 from (pos b -ℤ pos a)
+    es : List ℤ
+    es = raised old 0 (pos (p.unfiltered + q.unfiltered + r.unfiltered + s.unfiltered))
 
-    long1 : length (raised es 0 (pos a -ℤ pos 0)) ≡ 65
-    long1 = length-set es 0 _ ∙ long
+    long0 : length (raised old 0 (pos (p.unfiltered + q.unfiltered + r.unfiltered + s.unfiltered))) ≡ 65
+    long0 = length-set old 0 _ ∙ long
 
-    long2 : length (raised (raised es 0 (pos a -ℤ pos 0)) from (pos b -ℤ pos a)) ≡ 65
-    long2 = length-set _ from _ ∙ long1
+    long1 : length (jumped es p) ≡ 65
+    long1 = long_jumped es p long0
+
+    long2 : length (jumped (jumped es p) q) ≡ 65
+    long2 = long_jumped _ q long1
+
+    long3 : length (jumped (jumped (jumped es p) q) r) ≡ 65
+    long3 = long_jumped _ r long2
+
+    long4 : length (jumped (jumped (jumped (jumped es p) q) r) s) ≡ 65
+    long4 = long_jumped _ s long3
 
 -- adding nothing leaves the entries as they are
 pub added_none : (es : List ℤ) → HasAdded 0 (λ l. 0) es es

@@ -105,6 +105,6 @@ distance_by_level s size l xs ys h =
     at true false lost w n = with_test lost n (nat_le lost l) refl
     at false b lost w n = refl
 
--- levels past 63 count as 64
-pub capped : (from lost a b c l : ℕ) → l < 64 → by_level (min from 64) (min lost 64) a b c l ≡ by_level from lost a b c l
-capped from lost a b c l h = grind (arith, nat_tests)
+-- levels past 63 count as 64, and high variance that is lost before the line is filtered as lost there
+pub capped_later : (from lost a b c l : ℕ) → l < 64 → by_level (min from 64) (max (min from 64) (min lost 64)) a b c l ≡ by_level from lost a b c l
+capped_later from lost a b c l h = grind (arith, nat_tests)

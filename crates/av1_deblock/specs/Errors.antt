@@ -90,9 +90,10 @@ by_level from lost unfiltered high low level =
 abbrev pub profile_error : Profile → ℕ → ℕ
 profile_error p level = by_level p.from p.lost p.unfiltered p.high p.low level
 
--- a profile's levels are at most 64, its errors at most 2^28
+-- a profile's levels are at most 64, in order, its errors at most 2^28
 pub record HasLimits (p : Profile) : Type 0 where
   pub from : p.from ≤ 64
+  pub order : p.from ≤ p.lost
   pub lost : p.lost ≤ 64
   pub unfiltered : p.unfiltered ≤ 268435456
   pub high : p.high ≤ 268435456
@@ -156,6 +157,14 @@ pub record IsTally (f : ℕ → ℕ) (entries : List ℤ) : Type 0 where
 -- the entries with v added to one of them
 abbrev pub raised : List ℤ → ℕ → ℤ → List ℤ
 raised entries at v = slice_set entries at (sample entries at +ℤ v)
+
+-- the entries with the jumps of a profile's error added at its two levels
+abbrev pub jumped : List ℤ → Profile → List ℤ
+jumped entries p = raised (raised entries p.from (pos p.high -ℤ pos p.unfiltered)) p.lost (pos p.low -ℤ pos p.high)
+
+-- the errors of four lines that aren't filtered, added
+abbrev pub unfiltered_of : List ℕ → ℕ
+unfiltered_of marks = mark marks 0 + mark marks 1 + mark marks 2 + mark marks 3
 
 -- entries from -n to n
 pub record IsBoundedBy (n : ℕ) (entries : List ℤ) : Type 0 where

@@ -15,7 +15,7 @@ pub struct Profile {
     pub from: u32,
     /// The error of the line filtered with high variance.
     pub high: u32,
-    /// The level from which on it has no high variance, at most 64.
+    /// The level from which on it is filtered without high variance, at most 64.
     pub lost: u32,
     /// The error of the line filtered without high variance.
     pub low: u32,
@@ -44,8 +44,9 @@ fn first_of(edge: u32, step: u32, scale: u32, bits: u32) -> u32
     ensures value { result ≡ min (first_of_distances scale edge step) 64 }
     ensures small { result ≤ 64 }
 {
-    let by_edge = (over_of(edge, scale, bits).max(4) - 2) / 3;
-    by_edge.max(1).max(over_of(step, scale, bits)).min(64)
+    // At least 5, since a line is filtered from level 1 on at the earliest.
+    let by_edge = (over_of(edge, scale, bits).max(5) - 2) / 3;
+    by_edge.max(over_of(step, scale, bits)).min(64)
 }
 
 #[inline(always)]
@@ -113,7 +114,7 @@ fn step_of(a: i32, b: i32) -> u32
 }
 
 #[inline(always)]
-pub fn greater_of(a: u32, b: u32) -> u32
+fn greater_of(a: u32, b: u32) -> u32
     ensures { result ≡ max a b }
 {
     a.max(b)
@@ -140,14 +141,17 @@ fn profile_of(
     ensures unfiltered { result.unfiltered ≡ unfiltered }
     ensures from { result.from ≡ min (first_of_distances scale edge step) 64 }
     ensures high { result.high ≡ high }
-    ensures lost { result.lost ≡ min (16 * over v scale) 64 }
+    ensures lost { result.lost
+        ≡ max (min (first_of_distances scale edge step) 64) (min (16 * over v scale) 64) }
     ensures low { result.low ≡ low }
 {
+    let from = first_of(edge, step, scale, bits);
+    let lost = greater_of(from, lost_of(v, scale, bits));
     Profile {
         unfiltered,
-        from: first_of(edge, step, scale, bits),
+        from,
         high,
-        lost: lost_of(v, scale, bits),
+        lost,
         low,
     }
 }
@@ -298,7 +302,8 @@ fn profile_with(
     ensures from { result.from ≡ min (first_level scale (length line.now) line.now) 64 }
     ensures high { result.high ≡ high }
     ensures lost { result.lost
-        ≡ min (16 * over (variance line.now (length line.now / 2)) scale) 64 }
+        ≡ max (min (first_level scale (length line.now) line.now) 64)
+        (min (16 * over (variance line.now (length line.now / 2)) scale) 64) }
     ensures low { result.low ≡ low }
 {
     let size = line.len();
