@@ -1,6 +1,7 @@
-ghost use Rattle.std.specs.Prelude.{◌≡◌, ◌<◌, IfOk};
+ghost use Rattle.std.specs.Prelude.{◌≡◌, ◌<◌, ◌≤◌, ◌/◌, IfOk};
 ghost use Rattle.std.specs.List.{AllZip};
 ghost use Rattle.av1_plane.specs.declared.sampling.ChromaSampling.TheVariants.{Cs420};
+ghost use Rattle.av1_plane.specs.Layout.{rounded};
 ghost use Rattle.av1_plane.specs.Region.{IsStored, IsSamePart};
 ghost use Rattle.av1_plane.specs.Tiles.{KeepsPlanes};
 ghost use Rattle.av1_block.specs.Tables.{table_entries};
@@ -21,18 +22,39 @@ use std::alloc::Global;
 use std::sync::Arc;
 use std::test::Fail;
 
+mod units;
+mod views;
+
 fn is_shared<T: Send + Sync>(_value: &T) {}
 
-// A key frame of 160 by 144 in nine tiles.
-fn nine_tiles(alloc: Global) -> Result<FrameInvariants<u8>, Fail>
+// A key frame of 8 bits with these sides, in tiles of these logarithms.
+fn key_frame(
+    alloc: Global,
+    width: usize,
+    height: usize,
+    tile_cols_log2: usize,
+    tile_rows_log2: usize,
+) -> Result<FrameInvariants<u8>, Fail>
+    requires width { (2 ≤ width) × (width ≤ 65536) }
+    requires height { (2 ≤ height) × (height ≤ 65536) }
     ensures frame { IfOk result (λ fi. IsFrame 256 fi) }
-    ensures width { IfOk result (λ fi. fi.width ≡ 160) }
-    ensures height { IfOk result (λ fi. fi.height ≡ 144) }
+    ensures width { IfOk result (λ fi. fi.width ≡ width) }
+    ensures height { IfOk result (λ fi. fi.height ≡ height) }
     ensures sampling { IfOk result (λ fi. fi.sequence.chroma_sampling ≡ Cs420) }
-    ensures columns { IfOk result (λ fi. fi.w_in_b ≡ 40) }
-    ensures rows { IfOk result (λ fi. fi.h_in_b ≡ 36) }
+    ensures columns { IfOk result (λ fi. fi.w_in_b ≡ rounded width / 4) }
+    ensures rows { IfOk result (λ fi. fi.h_in_b ≡ rounded height / 4) }
 {
-    let Ok(tiling) = TilingInfo::from_target_tiles(6, 160, 144, 25, 1, 10, 8, false) else {
+    let tiling = TilingInfo::from_target_tiles(
+        6,
+        width,
+        height,
+        25,
+        1,
+        tile_cols_log2,
+        tile_rows_log2,
+        false,
+    );
+    let Ok(tiling) = tiling else {
         return Err(Fail::from("no tiling"));
     };
     let sequence = Sequence {
@@ -40,18 +62,18 @@ fn nine_tiles(alloc: Global) -> Result<FrameInvariants<u8>, Fail>
         chroma_sampling: ChromaSampling::Cs420,
         use_128x128_superblock: false,
         enable_cdef: false,
-        enable_restoration: false,
+        enable_restoration: true,
         enable_large_lru: false,
         tiling,
     };
     Ok(FrameInvariants {
         sequence,
-        width: 160,
-        height: 144,
-        sb_width: 3,
-        sb_height: 3,
-        w_in_b: 40,
-        h_in_b: 36,
+        width,
+        height,
+        sb_width: width.div_ceil(64),
+        sb_height: height.div_ceil(64),
+        w_in_b: width.next_multiple_of(8) / 4,
+        h_in_b: height.next_multiple_of(8) / 4,
         frame_type: FrameType::KEY,
         base_q_idx: 100,
         ac_quantizer: 100,
@@ -61,24 +83,34 @@ fn nine_tiles(alloc: Global) -> Result<FrameInvariants<u8>, Fail>
         fast_deblock: true,
         disable_frame_end_update_cdf: false,
         order_hint: 0,
-        render_width: 160,
-        render_height: 144,
+        render_width: width as u32,
+        render_height: height as u32,
         refresh_frame_flags: 0,
         rec_buffer: ReferenceFramesSet::new(alloc)?,
     })
 }
 
-// A state for it, whose input is all zeros.
+// A frame of 160 by 144 in nine tiles.
+fn nine_tiles(alloc: Global) -> Result<FrameInvariants<u8>, Fail>
+    ensures frame { IfOk result (λ fi. IsFrame 256 fi) }
+    ensures width { IfOk result (λ fi. fi.width ≡ 160) }
+    ensures height { IfOk result (λ fi. fi.height ≡ 144) }
+    ensures sampling { IfOk result (λ fi. fi.sequence.chroma_sampling ≡ Cs420) }
+    ensures columns { IfOk result (λ fi. fi.w_in_b ≡ 40) }
+    ensures rows { IfOk result (λ fi. fi.h_in_b ≡ 36) }
+{
+    key_frame(alloc, 160, 144, 10, 8)
+}
+
+// A state for a frame, whose input is all zeros.
 fn blank_state(alloc: Global, fi: &FrameInvariants<u8>) -> Result<FrameState<u8>, OutOfMemory>
     requires frame { IsFrame 256 fi.now }
-    requires width { fi.now.width ≡ 160 }
-    requires height { fi.now.height ≡ 144 }
     requires sampling { fi.now.sequence.chroma_sampling ≡ Cs420 }
     ensures { IfOk result (λ fs. IsStateFor fi.now fs) }
 {
-    let input: Frame<u8> = Frame::new(alloc, 160, 144, ChromaSampling::Cs420)?;
-    let half: Plane<u8> = Plane::new(alloc, 80, 72, 0, 0, 0, 0)?;
-    let quarter: Plane<u8> = Plane::new(alloc, 40, 36, 0, 0, 0, 0)?;
+    let input: Frame<u8> = Frame::new(alloc, fi.width, fi.height, ChromaSampling::Cs420)?;
+    let half: Plane<u8> = Plane::new(alloc, 8, 8, 0, 0, 0, 0)?;
+    let quarter: Plane<u8> = Plane::new(alloc, 4, 4, 0, 0, 0, 0)?;
     FrameState::with_source(
         alloc,
         fi,
